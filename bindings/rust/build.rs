@@ -39,7 +39,7 @@ fn check_compiler() {
         return;
     }
     let output = Command::new(setting("RUSTC")).arg("--version").output();
-    let text = output.map_or(Vec::new(), |said| said.stdout);
+    let text = output.map_or(Vec::new(), |run| run.stdout);
     let text = String::from_utf8_lossy(&text);
     let minor = text
         .trim()

@@ -159,12 +159,12 @@ fn run(arguments: &Arguments) -> io::Result<bool> {
     let (mut fails, mut failed) = (false, vec![false; addresses.len()]);
     let clients = |member| client(member, arguments);
     follow(addresses.len(), clients, |member, event| {
-        let told = tell(&addresses[member], &event, arguments);
-        if let Err(error) = &told {
+        let printed = tell(&addresses[member], &event, arguments);
+        if let Err(error) = &printed {
             eprintln!("standard output: {error}");
         }
-        failed[member] |= matches!(told, Ok(true));
-        fails = told.is_err() || (once && failed.iter().all(|failed| *failed));
+        failed[member] |= matches!(printed, Ok(true));
+        fails = printed.is_err() || (once && failed.iter().all(|failed| *failed));
         if fails || (once && matches!(event, Event::Data { .. })) {
             ControlFlow::Break(())
         } else {

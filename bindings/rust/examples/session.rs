@@ -1,6 +1,6 @@
 //! Lists the units of the session on standard input, as a router or a cache has recorded it.
 
-use rtr_wire::{Reader, Unit, UnitRef};
+use rtr_wire::{unit_line, Aspa, Reader, Unit, UnitRef};
 use std::fmt::Write as _;
 use std::io::{stdin, stdout, BufReader, BufWriter, Write};
 
@@ -9,14 +9,18 @@ fn main() -> Result<(), Box<dyn std::error::Error>> {
     let mut output = BufWriter::new(stdout());
     let mut offset = 0;
     while let Some(unit) = reader.next_unit()? {
-        let (kind, version, fields) = (unit.kind(), unit.version(), fields(&unit)?);
-        writeln!(output, "{offset} {kind} v{version}{fields}")?;
+        let (kind, version) = (unit.kind(), unit.version());
+        if let Unit::ErrorReport(_) = unit {
+            writeln!(output, "{}", unit_line(reader.bytes(), offset)?.0)?;
+        } else {
+            writeln!(output, "{offset} v{version} {kind}{}", fields(&unit)?)?;
+        }
         offset = reader.offset();
     }
     Ok(output.flush()?)
 }
 
-/// The content of a unit of this type.
+/// Returns the fields of a unit as text. A report is printed as the program `rtr_list` does.
 fn fields(unit: &UnitRef) -> Result<String, std::fmt::Error> {
     let action = |announce| if announce { "announce" } else { "withdraw" };
     let mut line = String::new();
@@ -47,27 +51,19 @@ fn fields(unit: &UnitRef) -> Result<String, std::fmt::Error> {
             write!(line, " {} {}", action(unit.announce), hex(&unit.identifier))?;
             write!(line, " AS{} key info {}", unit.asn, hex(unit.key_info))?;
         }
-        Unit::ErrorReport(unit) => {
-            write!(line, " code {} ({})", unit.code.0, unit.code)?;
-            if let Some(parts) = unit.parts {
-                let text = String::from_utf8_lossy(parts.text);
-                write!(line, " about {}: {text:?}", hex(parts.unit))?;
-            }
-        }
-        Unit::Aspa(unit) => {
-            write!(
-                line,
-                " {} AS{} providers",
-                action(unit.announce),
-                unit.customer
-            )?;
-            for provider in unit.providers.iter() {
-                write!(line, " AS{provider}")?;
-            }
-        }
-        _ => {} // a reset query or a cache reset
+        Unit::Aspa(unit) => write!(line, " {} {}", action(unit.announce), aspa(unit))?,
+        _ => {} // a reset query, a cache reset, or a report
     }
     Ok(line)
+}
+
+fn aspa(unit: &Aspa<&[u8]>) -> String {
+    let providers = unit.providers.iter().map(|asn| format!(" AS{asn}"));
+    format!(
+        "AS{} providers{}",
+        unit.customer,
+        providers.collect::<String>()
+    )
 }
 
 fn hex(bytes: &[u8]) -> String {

@@ -69,6 +69,8 @@ pub(crate) mod failure {
         "the client was stopped";
     pub(crate) const SLOW: &str =
         "the peer is too slow";
+    pub(crate) const NO_OTHER: &str =
+        "there is no other connection";
     pub(crate) const MORE_READ: &str =
         "more bytes were read than there is room for";
     pub(crate) const MORE_SENT: &str =
@@ -87,6 +89,10 @@ pub(crate) mod failure {
         "a cache that doesn't save has one session";
     pub(crate) const UNSAVED: &str =
         "the cache serves data that it didn't save";
+    pub(crate) const NOT_RESTORED: &str =
+        "the file exists, and wasn't restored";
+    pub(crate) const OTHER_FILE: &str =
+        "the data are saved in another file";
     pub(crate) const UNSYNCED: &str =
         "the folder isn't synced";
     pub(crate) const HIGHER_VERSION: &str =
@@ -119,7 +125,7 @@ pub(crate) mod status {
     pub(crate) const TOO_MANY: u8 = 8;
     /// The output is too short for the next unit or text.
     pub(crate) const NO_ROOM: u8 = 9;
-    /// rtr_write_unit: no such action, family or part.
+    /// The action, the family or a part of a unit to write is wrong.
     pub(crate) const NO_FORM: u8 = 10;
     /// A unit or an end of data breaks the canonical form of data or changes.
     pub(crate) const NOT_CANONICAL: u8 = 12;
@@ -130,7 +136,7 @@ pub(crate) mod status {
     pub(crate) const DUPLICATE: u8 = 14;
     /// A payload is withdrawn that isn't present.
     pub(crate) const UNKNOWN: u8 = 15;
-    /// rtr_order: an ASPA is announced and then withdrawn, so the net change depends on the data.
+    /// Changes to sort announce and then withdraw an ASPA, so the net change depends on the data.
     pub(crate) const UNDECIDED: u8 = 16;
     /// The index has fewer entries than there are units.
     pub(crate) const NO_INDEX: u8 = 17;
@@ -159,26 +165,27 @@ pub(crate) mod prefix_rule {
 
 /// The kinds of units, numbered by PDU type.
 pub(crate) mod kind {
-    /// RFC 8210 section 5.2.
+    /// A serial notify (RFC 8210 section 5.2).
     pub(crate) const SERIAL_NOTIFY: u8 = 0;
-    /// RFC 8210 section 5.3.
+    /// A serial query (RFC 8210 section 5.3).
     pub(crate) const SERIAL_QUERY: u8 = 1;
-    /// RFC 8210 section 5.4.
+    /// A reset query (RFC 8210 section 5.4).
     pub(crate) const RESET_QUERY: u8 = 2;
-    /// RFC 8210 section 5.5.
+    /// A cache response (RFC 8210 section 5.5).
     pub(crate) const CACHE_RESPONSE: u8 = 3;
-    /// RFC 8210 section 5.6.
+    /// An IPv4 prefix (RFC 8210 section 5.6).
     pub(crate) const IPV4_PREFIX: u8 = 4;
-    /// RFC 8210 section 5.7.
+    /// An IPv6 prefix (RFC 8210 section 5.7).
     pub(crate) const IPV6_PREFIX: u8 = 6;
-    /// RFC 6810 and RFC 8210 section 5.8.
+    /// An end of data (RFC 6810 and RFC 8210 section 5.8).
     pub(crate) const END_OF_DATA: u8 = 7;
-    /// RFC 8210 section 5.9.
+    /// A cache reset (RFC 8210 section 5.9).
     pub(crate) const CACHE_RESET: u8 = 8;
-    /// RFC 8210 section 5.10.
+    /// A router key (RFC 8210 section 5.10).
     pub(crate) const ROUTER_KEY: u8 = 9;
-    /// RFC 8210 section 5.11.
+    /// An error report (RFC 8210 section 5.11).
     pub(crate) const ERROR_REPORT: u8 = 10;
+    /// An ASPA, an autonomous system provider authorization.
     pub(crate) const ASPA: u8 = 11;
 }
 
@@ -186,7 +193,7 @@ pub(crate) mod kind {
 pub(crate) mod code {
     /// The data can't be parsed, or contradict themselves.
     pub(crate) const CORRUPT_DATA: u16 = 0;
-    /// The peer failed for a reason of its own.
+    /// The peer had an internal error.
     pub(crate) const INTERNAL_ERROR: u16 = 1;
     /// The cache has no data yet.
     pub(crate) const NO_DATA_AVAILABLE: u16 = 2;
@@ -1029,9 +1036,10 @@ pub(crate) struct Link {
 pub(crate) struct Todo {
     /// When to call rtr_link_next, if nothing comes before. It may have passed.
     pub(crate) wakes: u64,
-    /// The offset of the unit that it is about, in all bytes of the connection; of a change that
-    /// doesn't apply, that in the payload units of the answer; at an end that is about no unit,
-    /// the number of bytes that came before those of the input.
+    /// The offset of the unit that it is about, in all bytes of the connection. If an answer can't
+    /// be applied, the offset of the refused change in the payload units of the answer, or 0 if
+    /// none is refused. At any other end that is about no unit, the number of bytes that came
+    /// before those of the input.
     pub(crate) position: u64,
     /// The length that a buffer needs: in bytes, of the index in entries.
     pub(crate) room: usize,
@@ -1277,9 +1285,9 @@ pub(crate) struct Stores {
 #[repr(C)]
 #[derive(Clone, Copy, Debug, Default, PartialEq, Eq, Hash)]
 pub(crate) struct HistoryLimits {
-    /// A step is kept for this many milliseconds after it was made.
+    /// The time for which a step is kept, in milliseconds.
     pub(crate) time: u64,
-    /// The steps have at most this many bytes, with 16 bytes for each step.
+    /// The greatest size of all steps in bytes, 16 bytes for each step included.
     pub(crate) bytes: usize,
 }
 

@@ -177,9 +177,10 @@ impl Drop for Filed {
     }
 }
 
-/// Lets an empty file in memory start with huge pages, which are faster to send: those that `size`
-/// bytes fill at least by half. `MADV_COLLAPSE` needs a byte in each page. If the system has no
-/// huge pages, or a write beyond `RLIMIT_FSIZE` would kill the process, the file keeps small pages.
+/// Gives an empty file in memory huge pages at its front, for `size` bytes; a last page less than
+/// half full is left out. Huge pages are faster to send. `MADV_COLLAPSE` needs a byte in each page.
+/// If the system has no huge pages, or a write beyond `RLIMIT_FSIZE` would kill the process, the
+/// file keeps small pages.
 fn begin_huge(file: &File, size: usize) {
     const COLLAPSE: c_int = 25; // since Linux 6.1
     let huge = (size + HUGE_PAGE / 2) / HUGE_PAGE * HUGE_PAGE;
@@ -227,8 +228,8 @@ pub(crate) fn send_from(
     usize::try_from(count).map_err(|_| io::Error::last_os_error())
 }
 
-/// Sends bytes to a socket that more follow at once, so that they needn't have a packet of their
-/// own; returns how many were sent.
+/// Sends bytes that others follow at once (`MSG_MORE`), so that the system may join them in one
+/// packet; returns how many were sent.
 pub(crate) fn send_before(bytes: &[u8], socket: &impl AsRawFd) -> io::Result<usize> {
     const NO_SIGNAL: c_int = 0x4000;
     const MORE: c_int = 0x8000;

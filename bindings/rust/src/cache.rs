@@ -8,7 +8,7 @@ use crate::saving::Retries;
 use crate::server_error::{SaveError, TimeRule, UpdateError};
 use crate::snapshot::Snapshot;
 use crate::store::Store;
-use crate::unit::EndOfData;
+use crate::units::EndOfData;
 use std::fmt;
 use std::io::{self, ErrorKind};
 use std::mem::take;

@@ -5,7 +5,7 @@ pub(crate) use crate::abi::{reason, serving, Cache, Present, Serving};
 use crate::abi::{self, named, CacheSettings};
 use crate::calls;
 use crate::sys;
-use crate::unit::EndOfData;
+use crate::units::EndOfData;
 use std::string::{String, ToString};
 use std::vec::Vec;
 

@@ -2,11 +2,11 @@
 
 use crate::abi::LONGEST_END;
 use crate::calls;
-use crate::fault::Fault;
+use crate::faults::Fault;
 use crate::iter::Units;
 use crate::sequence::normalise_for;
 use crate::sys;
-use crate::unit::{EndOfData, Unit, UnitRef};
+use crate::units::{EndOfData, Unit, UnitRef};
 use alloc::collections::TryReserveError;
 use alloc::sync::Arc;
 use alloc::vec;
@@ -142,8 +142,8 @@ impl Hash for Count {
     fn hash<H: Hasher>(&self, _state: &mut H) {}
 }
 
-/// Returns the changes from old data to new data of any versions and sessions; empty bytes stand for
-/// no data.
+/// Returns the changes from old data to new data of any versions and sessions; empty bytes stand
+/// for no data.
 pub(crate) fn changes_between(old: &[u8], new: &[u8]) -> Result<Canonical, TryReserveError> {
     let most = old.len() + new.len();
     let mut changes = Vec::new();

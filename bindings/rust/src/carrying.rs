@@ -1,8 +1,8 @@
 //! A client of a cache over a socket.
 
 use crate::cache::Moment;
-use crate::served::{Served, ServedStep};
 use crate::server_error::ServerError;
+use crate::serving::{Served, ServedStep};
 use crate::socket::Socket;
 use crate::timed::has_to_wait;
 use std::boxed::Box;
@@ -123,8 +123,8 @@ impl Connection {
         }
     }
 
-    /// Sends unsent bytes; returns whether they were all those before a file's, so that these follow
-    /// at once.
+    /// Sends unsent bytes; returns whether they were all those before a file's, so that these
+    /// follow at once.
     fn send(&mut self, moment: &mut Moment, clock: impl Fn() -> u64) -> bool {
         let before_file = match self.served.file() {
             Some(_) => self.served.output()[0].len(),
@@ -231,8 +231,8 @@ mod tests {
         assert_eq!(connection.wakes(&moment), 5600);
     }
 
-    /// A socket that takes all bytes before a file's, and what `file` returns of these. It notes how
-    /// many it was given of each.
+    /// A socket that takes all bytes before a file's, and what `file` returns of these. It notes
+    /// how many it was given of each.
     struct Filing {
         stream: UnixStream,
         given: Arc<Mutex<Vec<(&'static str, usize)>>>,
@@ -422,9 +422,9 @@ mod tests {
             let mut connection = Connection::new(Box::new(socket), from, &moment);
             router.write_all(&[2, 2, 0, 0, 0, 0, 0, 8]).unwrap();
             let kinds = Arc::new(Mutex::new(Vec::new()));
-            let told = Arc::clone(&kinds);
+            let seen_kinds = Arc::clone(&kinds);
             let ended = move |_, error: &ServerError| match error {
-                ServerError::Io(error) => told.lock().unwrap().push(error.kind()),
+                ServerError::Io(error) => seen_kinds.lock().unwrap().push(error.kind()),
                 other => panic!("{other}"),
             };
             connection.go_on(&mut moment, || 0, &ended, true);

@@ -2,7 +2,7 @@
 
 use crate::canonical::Canonical;
 use crate::owned_data::Data;
-use crate::unit::{EndOfData, UnitRef};
+use crate::units::{EndOfData, UnitRef};
 use alloc::boxed::Box;
 use alloc::collections::TryReserveError;
 use alloc::vec::Vec;

@@ -2,7 +2,7 @@
 
 use crate::abi::{FINDING_ROOM, NAME_ROOM};
 use crate::calls;
-use crate::fault::Fault;
+use crate::faults::Fault;
 use crate::sys;
 use alloc::collections::BTreeSet;
 use alloc::string::String;

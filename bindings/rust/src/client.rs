@@ -20,8 +20,8 @@ use std::time::Duration;
 /// in one thread, which wakes only for bytes and times.
 ///
 /// It asks for all data, and then for changes: after a notify of the cache, and when the refresh
-/// interval has passed. The data are always those that the cache had at one serial number: either
-/// all changes of an answer are applied, or none. It falls back to the version of the cache (RFC
+/// interval has passed. The data are always the cache's data of one serial number: either all
+/// changes of an answer are applied, or none. It falls back to the version of the cache (RFC
 /// 8210 section 7). After a cache reset it asks for all data (section 8.3); in a new session it
 /// drops its data (section 5.1). After a fault of the cache it sends the report that is owed,
 /// closes the connection and reconnects. Data that can't be refreshed are dropped when they expire

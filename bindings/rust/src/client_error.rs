@@ -3,10 +3,10 @@
 use crate::abi::{cause, client_failure, failure, named, Todo, HEADER_SIZE};
 use crate::data::{DataError, Place, Side};
 use crate::error;
-use crate::fault::{ErrorCode, Fault};
+use crate::faults::{ErrorCode, Fault};
 use crate::refusal::Refusal;
 use crate::sys;
-use crate::unit::{unit_size, ErrorReport, Unit};
+use crate::units::{unit_size, ErrorReport, Unit};
 use alloc::vec::Vec;
 use core::fmt;
 
@@ -90,7 +90,10 @@ pub enum ClientError {
         /// The bytes of the unit.
         unit: Vec<u8>,
     },
-    /// The cache sent an error report.
+    /// The cache has no data yet, as its error report says (RFC 8210 section 8.4). The client asks
+    /// again.
+    NoData(ErrorReport<Vec<u8>>),
+    /// The cache sent another error report.
     Reported(ErrorReport<Vec<u8>>),
 }
 
@@ -109,7 +112,7 @@ impl fmt::Display for ClientError {
             ClientError::Refused(refusal) => refusal.fmt(f),
             ClientError::Data { error, .. } => error.fmt(f),
             ClientError::Breach { reason, .. } => reason.fmt(f),
-            ClientError::Reported(report) => {
+            ClientError::NoData(report) | ClientError::Reported(report) => {
                 write_cause(f, cause::REPORTED)?;
                 write_report(f, report)
             }
@@ -128,8 +131,18 @@ impl error::Error for ClientError {
 }
 
 impl ClientError {
-    /// Returns the error for a failure, one of [`client_failure`]. The input begins with the unit or
-    /// the change at fault.
+    /// Returns the error report that the cache sent, of [`ClientError::NoData`] and
+    /// [`ClientError::Reported`].
+    #[must_use]
+    pub fn reported(&self) -> Option<&ErrorReport<Vec<u8>>> {
+        match self {
+            ClientError::NoData(report) | ClientError::Reported(report) => Some(report),
+            _ => None,
+        }
+    }
+
+    /// Returns the error for a failure, one of [`client_failure`]. The input begins with the unit
+    /// or the change at fault.
     pub(crate) fn of(failure: u8, todo: &Todo, input: &[u8]) -> ClientError {
         match failure {
             client_failure::SLOW => ClientError::TooSlow,
@@ -144,7 +157,7 @@ impl ClientError {
             }
             client_failure::REFUSED => ClientError::refused(todo, input),
             client_failure::BREACH => ClientError::breach(todo, input),
-            client_failure::REPORTED => ClientError::reported(input),
+            client_failure::REPORTED => ClientError::of_report(input, ClientError::Reported),
             client_failure::EXPIRED => ClientError::Expired,
             client_failure::MEMORY => ClientError::NoMemory,
             _ => ClientError::Closed,
@@ -169,10 +182,13 @@ impl ClientError {
         }
     }
 
-    /// Returns the error for the report at the start of the input.
-    pub(crate) fn reported(input: &[u8]) -> ClientError {
+    /// Returns this error for the report at the start of the input.
+    pub(crate) fn of_report(
+        input: &[u8],
+        error: fn(ErrorReport<Vec<u8>>) -> ClientError,
+    ) -> ClientError {
         match Unit::first(input) {
-            Ok((Unit::ErrorReport(report), _)) => ClientError::Reported(report.into_owned()),
+            Ok((Unit::ErrorReport(report), _)) => error(report.into_owned()),
             _ => ClientError::Closed, // which isn't called a report
         }
     }

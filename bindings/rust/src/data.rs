@@ -1,9 +1,9 @@
 //! Data and changes in canonical form.
 
 use crate::error::Error;
-use crate::fault::Fault;
+use crate::faults::Fault;
 use crate::sys;
-use crate::unit::ErrorReport;
+use crate::units::ErrorReport;
 use core::fmt;
 
 /// One of the two inputs of a call.

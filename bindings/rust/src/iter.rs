@@ -1,8 +1,8 @@
 //! The units of a slice.
 
-use crate::fault::Fault;
+use crate::faults::Fault;
 use crate::kind::Kind;
-use crate::unit::{Unit, UnitRef};
+use crate::units::{Unit, UnitRef};
 
 /// An iterator over the units of a slice, up to its end or the first fault. It parses each unit
 /// once, and allocates nothing.

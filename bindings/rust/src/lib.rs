@@ -43,7 +43,7 @@
 //!
 //! [`Data`] are the data of a cache or a router, in canonical form. [`load_data`] loads a recording
 //! or a list. [`Data::delta_to`] computes the answer to a serial query, [`Data::apply_in_order`]
-//! applies the changes that a cache sends, and [`Data::apply`] those that [`order`] brings into
+//! applies the changes that a cache sends, and [`Data::apply`] changes that [`order`] brought into
 //! canonical form. [`delta_into`], [`apply_in_order`], [`order_into`] and [`apply_into`] do the
 //! same over slices, and allocate nothing.
 //!
@@ -117,7 +117,7 @@ mod connection;
 mod data;
 #[cfg(feature = "std")]
 mod door;
-mod fault;
+mod faults;
 #[cfg(feature = "std")]
 mod follow;
 mod group;
@@ -153,11 +153,11 @@ mod running;
 mod saving;
 mod sequence;
 #[cfg(feature = "std")]
-mod served;
-#[cfg(feature = "std")]
 mod server;
 #[cfg(feature = "std")]
 mod server_error;
+#[cfg(feature = "std")]
+mod serving;
 #[cfg(feature = "std")]
 mod snapshot;
 #[cfg(feature = "std")]
@@ -167,7 +167,7 @@ mod store;
 mod sys;
 #[cfg(feature = "std")]
 mod timed;
-mod unit;
+mod units;
 mod validation;
 #[cfg(feature = "alloc")]
 mod vrps;
@@ -191,7 +191,7 @@ pub use data::{
 };
 #[cfg(feature = "std")]
 pub use door::{Door, Entry};
-pub use fault::{ErrorCode, Fault, PrefixRule};
+pub use faults::{ErrorCode, Fault, PrefixRule};
 #[cfg(feature = "std")]
 pub use follow::{follow, follow_with};
 #[cfg(feature = "alloc")]
@@ -222,16 +222,16 @@ pub use refusal::Refusal;
 pub use router::{Event, Router, Step};
 pub use sequence::{normalise, normalise_for, same_meaning, NotCompared, Progress, Stopped};
 #[cfg(feature = "std")]
-pub use served::{Served, ServedStep};
-#[cfg(feature = "std")]
 pub use server::Server;
 #[cfg(feature = "std")]
 pub use server_error::{SaveError, ServerError, TimeRule, UpdateError};
 #[cfg(feature = "std")]
+pub use serving::{Served, ServedStep};
+#[cfg(feature = "std")]
 pub use socket::Socket;
 #[cfg(feature = "alloc")]
-pub use unit::OwnedUnit;
-pub use unit::{
+pub use units::OwnedUnit;
+pub use units::{
     compare_serials, unit_size, Aspa, CacheReset, CacheResponse, EndOfData, ErrorReport,
     Ipv4Prefix, Ipv6Prefix, Providers, ReportParts, ResetQuery, RouterKey, SerialNotify,
     SerialQuery, Timing, Unit, UnitRef,

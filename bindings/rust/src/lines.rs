@@ -1,9 +1,9 @@
 //! Units as lines of text, as the program `rtr_list` prints them, and changes as `rtr_diff` does.
 
 use crate::abi::LINE_ROOM;
-use crate::fault::Fault;
+use crate::faults::Fault;
 use crate::sys;
-use crate::unit::UnitRef;
+use crate::units::UnitRef;
 use alloc::string::String;
 use alloc::vec;
 use alloc::vec::Vec;

@@ -133,7 +133,7 @@ impl Link {
     }
 
     /// Returns the buffer to read bytes into: not empty after [`todo_kind::WAIT`].
-    pub(crate) fn room(&mut self) -> &mut [u8] {
+    pub(crate) fn input_buffer(&mut self) -> &mut [u8] {
         let filled = self.filled();
         &mut self.input[filled..]
     }
@@ -150,7 +150,7 @@ impl Link {
             self.is_starved = true;
             return;
         }
-        self.room()[..bytes.len()].copy_from_slice(bytes);
+        self.input_buffer()[..bytes.len()].copy_from_slice(bytes);
         self.received(bytes.len());
     }
 

@@ -3,7 +3,7 @@
 use crate::abi::{status, IPV4_SIZE};
 use crate::calls;
 use crate::data::{DataError, Place, Side};
-use crate::fault::Fault;
+use crate::faults::Fault;
 use crate::owned_data::Data;
 use alloc::vec;
 

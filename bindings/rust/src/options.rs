@@ -24,9 +24,9 @@ pub struct ClientOptions {
     pub dial: Duration,
     /// The time limit from a query to its end of data (default 2 minutes).
     pub response: Duration,
-    /// The most bytes of an answer (default 128 MiB).
+    /// The most bytes of the payload units of an answer (default 128 MiB).
     pub bytes: usize,
-    /// The most units of an answer, with its end of data (default four million).
+    /// The most payload units of an answer (default 4 million).
     pub units: u64,
     /// The least time between two queries, and between two connections (default 1 second).
     pub pause: Duration,
@@ -48,7 +48,7 @@ impl Default for ClientOptions {
             dial: span(usual.connect_limit),
             response: span(usual.response_limit),
             bytes: usize::try_from(usual.most_bytes).unwrap_or(usize::MAX),
-            units: u64::from(usual.most_units) + 1,
+            units: usual.most_units.into(),
             pause: span(usual.pause),
             report: span(LAST_REPORT_LIMIT),
             refresh: None,
@@ -75,8 +75,7 @@ impl ClientOptions {
             refresh: span(self.refresh),
             retry: span(self.retry),
             expire: span(self.expire),
-            // Without the end of data.
-            most_units: u32::try_from(self.units.saturating_sub(1)).unwrap_or(u32::MAX),
+            most_units: u32::try_from(self.units).unwrap_or(u32::MAX),
             chance,
             ..sys::usual_settings(self.version)
         }

@@ -1,12 +1,12 @@
 //! Units from a reader.
 
 use crate::abi::{HEADER_SIZE, LONGEST_UNIT};
-use crate::fault::Fault;
+use crate::faults::Fault;
 use crate::iter::refuse_outside_of_sequences;
 use crate::kind::Kind;
 use crate::refusal::Refusal;
 use crate::sys;
-use crate::unit::{OwnedUnit, Unit, UnitRef};
+use crate::units::{OwnedUnit, Unit, UnitRef};
 use std::fmt;
 use std::io::{self, Read};
 use std::vec::Vec;

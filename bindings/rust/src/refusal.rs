@@ -1,8 +1,8 @@
 //! A refused unit with its bytes.
 
 use crate::error;
-use crate::fault::Fault;
-use crate::unit::ErrorReport;
+use crate::faults::Fault;
+use crate::units::ErrorReport;
 use alloc::string::ToString;
 use alloc::vec::Vec;
 use core::fmt;

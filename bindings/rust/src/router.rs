@@ -197,7 +197,7 @@ impl Router {
     /// Returns the buffer to read bytes into without a copy; then call [`Router::filled`]. It isn't
     /// empty while there is a connection and [`Router::next`] returned [`Step::Wait`].
     pub fn room(&mut self) -> &mut [u8] {
-        self.link.room()
+        self.link.input_buffer()
     }
 
     /// Reports that `count` bytes were read into [`Router::room`]; 0 means that the cache has
@@ -269,8 +269,9 @@ impl Router {
                 self.steps.push_back(Step::Failed(ClientError::Expired));
             }
             todo_kind::NO_DATA => {
-                let reported = ClientError::reported(self.link.input_from(todo.offset));
-                self.steps.push_back(Step::Failed(reported));
+                let input = self.link.input_from(todo.offset);
+                let no_data = ClientError::of_report(input, ClientError::NoData);
+                self.steps.push_back(Step::Failed(no_data));
             }
             _ => {}
         }

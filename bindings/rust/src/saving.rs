@@ -59,7 +59,7 @@ pub(crate) struct Retries {
     thread: Mutex<Option<JoinHandle<()>>>,
 }
 
-/// Which thread continues: the last one started, until it is cancelled.
+/// The number of the thread that may continue: the last one started, unless cancelled.
 #[derive(Debug, Default)]
 struct Turn {
     number: u64,

@@ -2,7 +2,7 @@
 
 use crate::data::{Place, Side};
 use crate::error::Error;
-use crate::fault::Fault;
+use crate::faults::Fault;
 use crate::sys;
 use core::fmt;
 

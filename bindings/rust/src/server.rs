@@ -9,7 +9,7 @@ use crate::owned_data::Data;
 use crate::server_error::{SaveError, ServerError, UpdateError};
 use crate::socket::Socket;
 use crate::timed::{has_to_wait, milliseconds_since, Stop};
-use crate::unit::EndOfData;
+use crate::units::EndOfData;
 use crate::waiting::{block_broken_pipes, keep_waiting, limit_unsent, waker};
 use crate::waiting::{Poller, Waker, Woken};
 use std::boxed::Box;

@@ -3,9 +3,9 @@
 use crate::abi::{failure, named, time_rule};
 use crate::cache_machine::{reason, reason_text, Serving};
 use crate::client_error::write_report;
-use crate::fault::ErrorCode;
+use crate::faults::ErrorCode;
 use crate::sys;
-use crate::unit::{EndOfData, ErrorReport, Unit};
+use crate::units::{EndOfData, ErrorReport, Unit};
 use std::fmt;
 use std::io;
 use std::string::{String, ToString};

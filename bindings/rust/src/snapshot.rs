@@ -7,7 +7,7 @@ use crate::calls;
 use crate::canonical::changes_between;
 use crate::options::ServerOptions;
 use crate::store::{in_version, History};
-use crate::unit::EndOfData;
+use crate::units::EndOfData;
 use std::collections::BTreeMap;
 use std::sync::Mutex;
 use std::vec::Vec;

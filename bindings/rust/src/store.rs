@@ -10,7 +10,7 @@ use crate::owned_data::Data;
 use crate::saving::{forget_new, replace, sync_folder};
 use crate::sequence::normalise_for;
 use crate::server_error::UpdateError;
-use crate::unit::{EndOfData, Unit, UnitRef};
+use crate::units::{EndOfData, Unit, UnitRef};
 use std::borrow::Cow;
 use std::fs::read;
 use std::io::{self, ErrorKind};
@@ -174,22 +174,13 @@ impl Store {
             };
             // SAFETY: all slices are live, of these lengths, and never null. What the call writes
             // overlaps nothing, and it doesn't write to the buffer of the store that is served.
+            #[rustfmt::skip]
             unsafe {
                 abi::rtr_stores_take_nonnull(
-                    stores,
-                    data.as_ptr(),
-                    data.len(),
-                    now,
-                    limits,
-                    rooms.buffer.as_mut_ptr(),
-                    rooms.buffer.len(),
-                    rooms.spare.as_mut_ptr(),
-                    rooms.spare.len(),
-                    first.0,
-                    first.1,
-                    second.0,
-                    second.1,
-                    &mut answer,
+                    stores, data.as_ptr(), data.len(), now, limits,
+                    rooms.buffer.as_mut_ptr(), rooms.buffer.len(),
+                    rooms.spare.as_mut_ptr(), rooms.spare.len(),
+                    first.0, first.1, second.0, second.1, &mut answer,
                 );
             };
             answer
@@ -306,8 +297,8 @@ fn started(store: &Memory) -> io::Result<Stores> {
     }
 }
 
-/// Returns the store in a file, also in one that begins with `rtrkept1`, of versions before 0.3.0,
-/// if its head is that of what follows.
+/// Returns the store of a file, also of the form before 0.3.0 (`rtrkept1`), if the head's checksum
+/// matches.
 fn unsealed(mut file: Vec<u8>) -> io::Result<Memory> {
     if calls::store_open(&file) {
         file.drain(..size_of::<StoreHead>());

@@ -8,13 +8,13 @@ use crate::abi::{self, covers, kind, side, status, validity};
 use crate::abi::{Answer, DataAnswer, Route as RouteNumbers};
 use crate::calls;
 use crate::data::{DataError, Place, Side};
-use crate::fault::{ErrorCode, Fault};
+use crate::faults::{ErrorCode, Fault};
 use crate::kind::Kind;
 use crate::net::{IpAddr, Ipv4Addr, Ipv6Addr};
 use crate::sequence::{NotCompared, Progress, Stopped};
 #[cfg(feature = "std")]
-use crate::unit::EndOfData;
-use crate::unit::{self, ErrorReport, Providers, ReportParts, Timing, UnitRef};
+use crate::units::EndOfData;
+use crate::units::{self, ErrorReport, Providers, ReportParts, Timing, UnitRef};
 use crate::validation::{Route, Validity};
 #[cfg(feature = "alloc")]
 use alloc::{vec, vec::Vec};
@@ -373,24 +373,58 @@ impl Unit {
     /// Converts the struct to a typed unit with these bytes.
     pub(crate) fn typed<'a>(&self, bytes: &'a [u8]) -> UnitRef<'a> {
         let (version, session, serial) = (self.version, self.session, self.serial);
-        let announce = self.action == 1;
-        let part = &bytes[self.part_start..][..self.part_length];
         match self.kind {
-            kind::SERIAL_NOTIFY => unit::Unit::SerialNotify(unit::SerialNotify {
+            kind::SERIAL_NOTIFY => units::Unit::SerialNotify(units::SerialNotify {
                 version,
                 session,
                 serial,
             }),
-            kind::SERIAL_QUERY => unit::Unit::SerialQuery(unit::SerialQuery {
+            kind::SERIAL_QUERY => units::Unit::SerialQuery(units::SerialQuery {
                 version,
                 session,
                 serial,
             }),
-            kind::RESET_QUERY => unit::Unit::ResetQuery(unit::ResetQuery { version }),
+            kind::RESET_QUERY => units::Unit::ResetQuery(units::ResetQuery { version }),
             kind::CACHE_RESPONSE => {
-                unit::Unit::CacheResponse(unit::CacheResponse { version, session })
+                units::Unit::CacheResponse(units::CacheResponse { version, session })
             }
-            kind::IPV4_PREFIX => unit::Unit::Ipv4Prefix(unit::Ipv4Prefix {
+            kind::IPV4_PREFIX | kind::IPV6_PREFIX | kind::ROUTER_KEY | kind::ASPA => {
+                self.payload(self.part(bytes))
+            }
+            kind::END_OF_DATA => units::Unit::EndOfData(units::EndOfData {
+                version,
+                session,
+                serial,
+                timing: self.timing(),
+            }),
+            kind::CACHE_RESET => units::Unit::CacheReset(units::CacheReset { version }),
+            _ => units::Unit::ErrorReport(self.report(bytes)),
+        }
+    }
+
+    /// Returns the bytes of the part of the unit: key info, providers, or the unit of a report.
+    fn part<'a>(&self, bytes: &'a [u8]) -> &'a [u8] {
+        &bytes[self.part_start..][..self.part_length]
+    }
+
+    /// Converts the struct of an error report. If its inner lengths are wrong it has no parts.
+    fn report<'a>(&self, bytes: &'a [u8]) -> ErrorReport<&'a [u8]> {
+        ErrorReport {
+            version: self.version,
+            code: ErrorCode(self.code),
+            parts: (self.part_start > 0).then(|| ReportParts {
+                unit: self.part(bytes),
+                text: &bytes[self.text_start..][..self.text_length],
+            }),
+        }
+    }
+
+    /// Converts the struct of a prefix, a router key or an ASPA to a typed unit with this part.
+    #[inline]
+    fn payload<'a>(&self, part: &'a [u8]) -> UnitRef<'a> {
+        let (version, announce) = (self.version, self.action == 1);
+        match self.kind {
+            kind::IPV4_PREFIX => units::Unit::Ipv4Prefix(units::Ipv4Prefix {
                 version,
                 announce,
                 address: self.ipv4(),
@@ -398,7 +432,7 @@ impl Unit {
                 max_length: self.max_length,
                 asn: self.asn,
             }),
-            kind::IPV6_PREFIX => unit::Unit::Ipv6Prefix(unit::Ipv6Prefix {
+            kind::IPV6_PREFIX => units::Unit::Ipv6Prefix(units::Ipv6Prefix {
                 version,
                 announce,
                 address: Ipv6Addr::from(self.address),
@@ -406,34 +440,18 @@ impl Unit {
                 max_length: self.max_length,
                 asn: self.asn,
             }),
-            kind::END_OF_DATA => unit::Unit::EndOfData(unit::EndOfData {
-                version,
-                session,
-                serial,
-                timing: self.timing(),
-            }),
-            kind::CACHE_RESET => unit::Unit::CacheReset(unit::CacheReset { version }),
-            kind::ROUTER_KEY => unit::Unit::RouterKey(unit::RouterKey {
+            kind::ROUTER_KEY => units::Unit::RouterKey(units::RouterKey {
                 version,
                 announce,
                 identifier: self.key_identifier,
                 asn: self.asn,
                 key_info: part,
             }),
-            kind::ASPA => unit::Unit::Aspa(unit::Aspa {
+            _ => units::Unit::Aspa(units::Aspa {
                 version,
                 announce,
                 customer: self.customer,
                 providers: Providers(part),
-            }),
-            _ => unit::Unit::ErrorReport(unit::ErrorReport {
-                version,
-                code: ErrorCode(self.code),
-                // A report whose inner lengths are wrong has no parts.
-                parts: (self.part_start > 0).then(|| ReportParts {
-                    unit: part,
-                    text: &bytes[self.text_start..][..self.text_length],
-                }),
             }),
         }
     }
@@ -454,40 +472,20 @@ impl Unit {
 
     /// Converts the unit for the archive, without the length of its part, and a report without its
     /// text.
-    pub(crate) fn of<B>(typed: &unit::Unit<B>) -> Self {
+    pub(crate) fn of<B>(typed: &units::Unit<B>) -> Self {
         let unit = Unit {
             kind: typed.kind().into(),
             version: typed.version(),
             ..Unit::default()
         };
         match typed {
-            unit::Unit::SerialNotify(notify) => unit.with_serial(notify.session, notify.serial),
-            unit::Unit::SerialQuery(query) => unit.with_serial(query.session, query.serial),
-            unit::Unit::CacheResponse(response) => unit.with_serial(response.session, 0),
-            unit::Unit::ResetQuery(_) | unit::Unit::CacheReset(_) => unit,
-            unit::Unit::Ipv4Prefix(prefix) => {
-                let mut address = [0; 16];
-                address[..4].copy_from_slice(&prefix.address.octets());
-                Unit {
-                    family: 4,
-                    address,
-                    action: prefix.announce.into(),
-                    prefix_length: prefix.length,
-                    max_length: prefix.max_length,
-                    asn: prefix.asn,
-                    ..unit
-                }
-            }
-            unit::Unit::Ipv6Prefix(prefix) => Unit {
-                family: 6,
-                address: prefix.address.octets(),
-                action: prefix.announce.into(),
-                prefix_length: prefix.length,
-                max_length: prefix.max_length,
-                asn: prefix.asn,
-                ..unit
-            },
-            unit::Unit::EndOfData(end) => {
+            units::Unit::SerialNotify(notify) => unit.with_serial(notify.session, notify.serial),
+            units::Unit::SerialQuery(query) => unit.with_serial(query.session, query.serial),
+            units::Unit::CacheResponse(response) => unit.with_serial(response.session, 0),
+            units::Unit::ResetQuery(_) | units::Unit::CacheReset(_) => unit,
+            units::Unit::Ipv4Prefix(prefix) => unit.with_ipv4(prefix),
+            units::Unit::Ipv6Prefix(prefix) => unit.with_ipv6(prefix),
+            units::Unit::EndOfData(end) => {
                 let timing = end.timing.unwrap_or(Timing::RECOMMENDED);
                 Unit {
                     refresh: timing.refresh,
@@ -496,18 +494,44 @@ impl Unit {
                     ..unit.with_serial(end.session, end.serial)
                 }
             }
-            unit::Unit::RouterKey(key) => Unit {
+            units::Unit::RouterKey(key) => Unit {
                 action: key.announce.into(),
                 key_identifier: key.identifier,
                 asn: key.asn,
                 ..unit
             },
-            unit::Unit::ErrorReport(report) => Unit::of_report(report),
-            unit::Unit::Aspa(aspa) => Unit {
+            units::Unit::ErrorReport(report) => Unit::of_report(report),
+            units::Unit::Aspa(aspa) => Unit {
                 action: aspa.announce.into(),
                 customer: aspa.customer,
                 ..unit
             },
+        }
+    }
+
+    fn with_ipv4(self, prefix: &units::Ipv4Prefix) -> Self {
+        let mut address = [0; 16];
+        address[..4].copy_from_slice(&prefix.address.octets());
+        Unit {
+            family: 4,
+            address,
+            action: prefix.announce.into(),
+            prefix_length: prefix.length,
+            max_length: prefix.max_length,
+            asn: prefix.asn,
+            ..self
+        }
+    }
+
+    fn with_ipv6(self, prefix: &units::Ipv6Prefix) -> Self {
+        Unit {
+            family: 6,
+            address: prefix.address.octets(),
+            action: prefix.announce.into(),
+            prefix_length: prefix.length,
+            max_length: prefix.max_length,
+            asn: prefix.asn,
+            ..self
         }
     }
 
@@ -565,7 +589,7 @@ mod tests {
 
     /// Returns what the library says for a row without a name, and what it has to say.
     #[cfg(feature = "std")]
-    fn said<'a>(word: &str, number: u16, row: &'a str) -> (std::string::String, &'a str) {
+    fn shown<'a>(word: &str, number: u16, row: &'a str) -> (std::string::String, &'a str) {
         let (first, text) = row.split_once(' ').unwrap();
         if word == "report" {
             let digits = if first == "-" { "" } else { first };
@@ -605,8 +629,8 @@ mod tests {
                 "code" => named::CODE,
                 "time_rule" => named::TIME_RULE,
                 _ => {
-                    let (said, text) = said(word, number, text);
-                    assert_eq!(said, text, "{row}");
+                    let (shown, text) = shown(word, number, text);
+                    assert_eq!(shown, text, "{row}");
                     rows += 1;
                     continue;
                 }

@@ -1,10 +1,10 @@
 //! Data from VRPs, and VRPs of data.
 
 use crate::error::Error;
-use crate::fault::Fault;
+use crate::faults::Fault;
 use crate::net::IpAddr;
 use crate::owned_data::Data;
-use crate::unit::{EndOfData, Ipv4Prefix, Ipv6Prefix, Timing, Unit, UnitRef};
+use crate::units::{EndOfData, Ipv4Prefix, Ipv6Prefix, Timing, Unit, UnitRef};
 use crate::validation::first_bits;
 use alloc::collections::BTreeSet;
 use alloc::vec::Vec;

@@ -1,7 +1,7 @@
 //! Writes units to a writer.
 
 use crate::reader::Error;
-use crate::unit::Unit;
+use crate::units::Unit;
 use std::io::Write;
 use std::vec::Vec;
 

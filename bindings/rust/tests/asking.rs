@@ -66,7 +66,7 @@ fn goes_on(router: &mut Router, now: u64) -> usize {
     }
 }
 
-/// It asks at once, but not before the pause, and once.
+/// It asks once: at once, or after the rest of the pause.
 #[test]
 fn a_router_that_waits() {
     let mut router = asked();

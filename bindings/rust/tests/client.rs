@@ -323,6 +323,22 @@ fn no_data_and_expired_data() {
     assert_eq!(told.get(place + 1), Some(&expired));
 }
 
+/// A client that loads data once fails by the report of a cache that has none.
+#[test]
+fn a_cache_without_data() {
+    let _alone = alone();
+    let code = ErrorCode::NO_DATA_AVAILABLE;
+    let plays = Box::new(move |mut peer: Peer| peer.send(&report(2, code)));
+    let (error, _) = fetch_played(plays, options());
+    assert!(matches!(error, ClientError::NoData(_)), "{error:?}");
+    let reported = error.reported().map(|report| report.code);
+    assert_eq!(reported, Some(code));
+    assert_eq!(
+        error.to_string(),
+        r#"the cache reports an error: No Data Available, "so it is""#
+    );
+}
+
 /// Ends an answer to a reset query after this many bytes: closes the connection, or resets it by
 /// not reading the query.
 fn stops_after(cache: &Played, answer: &[u8], resets: bool) -> ClientError {
@@ -608,13 +624,13 @@ fn floods_after_a_report() {
     assert!(counted.recv().unwrap() < MOST);
 }
 
-/// An answer with as many bytes of payload units, or units, as are allowed is accepted, and one
-/// more is refused.
+/// An answer with as many payload units, or bytes of these, as are allowed is accepted, and one more
+/// is refused.
 #[test]
 fn limits() {
     let _alone = alone();
     let bytes = data(1).as_bytes().len() - end_of(1).len();
-    let units = data(1).len() as u64 + 1;
+    let units = data(1).len() as u64;
     let rows = [
         (bytes, units, Ok(data(1))),
         (bytes - 1, units, Err("the answer is too long".to_string())),

@@ -247,6 +247,39 @@ fn offsets() {
     }
 }
 
+/// The report of a cache that has no data yet is `NoData`, and the connection stays. One of the same
+/// code that ends the session isn't.
+#[test]
+fn reports_of_no_data() {
+    let report = bytes_of(&Unit::ErrorReport(ErrorReport::<&[u8]> {
+        version: 2,
+        code: ErrorCode::NO_DATA_AVAILABLE,
+        parts: None,
+    }));
+    let said = "the cache reports an error: No Data Available";
+    let mut router = asked();
+    match &read(&mut router, &report, 5, 0)[..] {
+        [Step::Failed(error @ ClientError::NoData(unit))] => {
+            assert_eq!(error.reported(), Some(unit));
+            assert_eq!(unit.code, ErrorCode::NO_DATA_AVAILABLE);
+            assert_eq!(error.to_string(), said);
+        }
+        other => panic!("{other:?}"),
+    }
+    let now = router.wakes();
+    assert!(matches!(router.next(now), Step::Wait));
+    assert_eq!(sent(&mut router), reset_query(2));
+    data_step(read(&mut router, &all(1), usize::MAX, now));
+    match &read(&mut router, &report, 5, now)[..] {
+        [Step::Close, Step::Failed(error @ ClientError::Reported(unit))] => {
+            assert_eq!(error.reported(), Some(unit));
+            assert_eq!(error.to_string(), said);
+        }
+        other => panic!("{other:?}"),
+    }
+    assert_eq!(ClientError::Closed.reported(), None);
+}
+
 /// Reports about a connection that was closed or lost change nothing.
 #[test]
 fn late_reports() {
@@ -323,7 +356,7 @@ fn usual_options() {
     );
     assert_eq!(
         (usual.version, usual.bytes, usual.units),
-        (1, 128 << 20, 4_000_001)
+        (1, 128 << 20, 4_000_000)
     );
     assert_eq!([usual.refresh, usual.retry, usual.expire], [None; 3]);
 }

@@ -63,7 +63,7 @@ fn what_is_kept() {
     knows(&cache, 1, 3..=4);
 }
 
-/// Repeats something that a busy machine may not do within a limit, until it does.
+/// Retries a check that a busy machine may miss in time.
 fn within<T>(limit: Duration, what: impl Fn(Duration) -> T) -> T {
     loop {
         let began = Instant::now();
@@ -424,7 +424,7 @@ fn a_slow_reader() {
     client.send(&reset_query(2));
     let mut came = vec![0; wanted.len()];
     for (number, piece) in came.chunks_mut(1 << 20).enumerate() {
-        // While this one waits so do the server's writes, some of which have then written a part.
+        // While this thread waits, so do the server's writes; some have written only a part.
         if number < 8 {
             std::thread::sleep(milliseconds(250));
         }
@@ -637,7 +637,7 @@ fn answers_that_are_cut() {
     }
 }
 
-/// No thread wakes without cause: neither for clients that ask nothing, nor for those that don't
+/// No thread wakes without cause: neither for clients that ask nothing, nor for clients that don't
 /// read.
 #[test]
 fn no_thread_wakes() {

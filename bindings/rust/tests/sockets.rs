@@ -17,7 +17,7 @@ use std::sync::{Arc, Mutex};
 use std::thread::Builder;
 use std::time::{Duration, Instant};
 
-/// A socket like those that encrypt: it hides bytes, holds some of them until it is flushed, and
+/// A socket like one that encrypts: it hides bytes, holds some of them until it is flushed, and
 /// refuses every second call, as one that would block or was interrupted by a signal.
 struct Hidden<S> {
     socket: S,

@@ -4,7 +4,7 @@
 #[path = "../src/scenes.rs"]
 mod scenes;
 
-use rtr_wire::{ClientError, ClientOptions, ErrorCode, Router, Step};
+use rtr_wire::{ClientError, ClientOptions, Router, Step};
 use scenes::{answer, bytes_of, each_line, hex, play};
 use std::fmt::Write;
 use std::time::Duration;
@@ -62,11 +62,7 @@ impl RouterEnd {
                     self.does(&format!("shows {{ {} }}", hex(data.as_bytes())));
                 }
                 Step::Dropped(_) => self.does("drops"),
-                Step::Failed(ClientError::Reported(report))
-                    if self.connected && report.code == ErrorCode::NO_DATA_AVAILABLE =>
-                {
-                    self.does("no data");
-                }
+                Step::Failed(ClientError::NoData(_)) => self.does("no data"),
                 _ => {}
             }
         }
@@ -121,7 +117,7 @@ impl RouterEnd {
             "refresh" => self.options.refresh = Some(span),
             "retry" => self.options.retry = Some(span),
             "expire" => self.options.expire = Some(span),
-            "most-units" => self.options.units = value + 1, // with the end of data
+            "most-units" => self.options.units = value,
             "most-bytes" => self.options.bytes = value.try_into().unwrap(),
             _ => panic!("no setting {name}"),
         }

@@ -5,8 +5,8 @@ use rtr_wire::{Fault, PrefixRule};
 use std::io::ErrorKind;
 use std::process::Command;
 
-/// The cases of the file that a setting names, or else those that a script makes with these
-/// arguments; none if there is no python3 to run it.
+/// The cases of the file that a setting names, or else the cases that a script prints, run with
+/// these arguments; none if there is no python3.
 pub fn cases(setting: &str, script: &str, arguments: &[&str]) -> Option<Vec<u8>> {
     if let Ok(path) = std::env::var(setting) {
         return Some(std::fs::read(path).expect("the file of cases is read"));

@@ -83,6 +83,43 @@ async fn a_cache_that_falls_silent() {
     assert_eq!(began.elapsed().as_secs(), 120);
 }
 
+/// A cache that has no data yet is an error of its own, whether the client follows it or loads data
+/// once, and is asked again.
+#[tokio::test(start_paused = true)]
+async fn a_cache_without_data() {
+    let report = bytes_of(&Unit::ErrorReport(ErrorReport::<&[u8]> {
+        version: 2,
+        code: ErrorCode::NO_DATA_AVAILABLE,
+        parts: None,
+    }));
+    let (ours, mut cache) = duplex(1 << 16);
+    let mut ours = Some(ours);
+    let options = ClientOptions {
+        version: 2,
+        ..ClientOptions::default()
+    };
+    let mut client = AsyncClient::new(options, move || {
+        let stream = ours.take().expect("it connects once");
+        async { Ok(stream) }
+    });
+    let playing = tokio::spawn(async move {
+        for answer in [&report, &report, &answer(data(1).as_bytes())] {
+            expect(&mut cache, &reset_query(2)).await;
+            cache.write_all(answer).await.unwrap();
+        }
+        cache
+    });
+    match client.next().await {
+        Event::Failed(ClientError::NoData(report)) => {
+            assert_eq!(report.code, ErrorCode::NO_DATA_AVAILABLE);
+        }
+        other => panic!("{other:?}"),
+    }
+    assert!(matches!(client.fetch().await, Err(ClientError::NoData(_))));
+    assert_eq!(client.fetch().await.unwrap(), data(1));
+    drop(playing.await.unwrap());
+}
+
 /// If connections can't be made, it makes the next one after a pause, not when its time comes,
 /// which grows.
 #[tokio::test(start_paused = true)]

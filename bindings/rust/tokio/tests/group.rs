@@ -60,7 +60,7 @@ fn client(place: &Shared) -> AsyncClient<DuplexStream> {
     AsyncClient::with_random(options, 0, move || dial(place.lock().unwrap().clone()))
 }
 
-/// The next event that tells of data: the member, the data and what changed. Failures are counted.
+/// The next event with data: the member, the data and what changed. Failures are counted.
 async fn shown(
     group: &mut AsyncGroup<DuplexStream>,
     failures: &mut Vec<usize>,
@@ -222,7 +222,7 @@ async fn requests() {
     let places = [place(Place::Refuses), place(Place::Serves(server.clone()))];
     let mut group = AsyncGroup::new(places.iter().map(client)).unwrap();
     shown(&mut group, &mut Vec::new()).await;
-    // A notify tells of the second data, and none within the next hour.
+    // A notify announces the second data, and none comes within the next hour.
     server.update(data_of(9, 2, 20)).unwrap();
     shown(&mut group, &mut Vec::new()).await;
     server.update(data_of(9, 3, 20)).unwrap();
@@ -265,8 +265,8 @@ async fn futures_that_are_dropped() {
 }
 
 /// The waits for a cache continue to grow where its client is stopped and started again
-/// (`docs/SESSIONS.md`, "Caches by preference"): each run fails twice, so the first wait of the next
-/// one is four times as long.
+/// (`docs/SESSIONS.md`, "Caches by preference"): each run fails twice, so the first wait of the
+/// next one is four times as long.
 #[tokio::test(start_paused = true)]
 async fn waits_that_go_on() {
     let first = place(Place::Refuses);

@@ -6,7 +6,7 @@ mod ends;
 mod scenes;
 
 use ends::{runtime, Shared, Wire, World};
-use rtr_wire::{ClientError, ClientOptions, ErrorCode, Event};
+use rtr_wire::{ClientError, ClientOptions, Event};
 use rtr_wire_tokio::AsyncClient;
 use scenes::{answer, each_line, hex, play};
 use std::io::{self, ErrorKind};
@@ -53,7 +53,7 @@ impl RouterEnd {
             "refresh" => self.options.refresh = Some(span),
             "retry" => self.options.retry = Some(span),
             "expire" => self.options.expire = Some(span),
-            "most-units" => self.options.units = value + 1, // with the end of data
+            "most-units" => self.options.units = value,
             "most-bytes" => self.options.bytes = value.try_into().unwrap(),
             _ => panic!("no setting {name}"),
         }
@@ -127,11 +127,7 @@ fn did(world: &mut World, event: &Event) {
     match event {
         Event::Data { data, .. } => world.does(&format!("shows {{ {} }}", hex(data.as_bytes()))),
         Event::Dropped { .. } => world.does("drops"),
-        Event::Failed(ClientError::Reported(report))
-            if world.is_open && report.code == ErrorCode::NO_DATA_AVAILABLE =>
-        {
-            world.does("no data");
-        }
+        Event::Failed(ClientError::NoData(_)) => world.does("no data"),
         _ => {}
     }
 }

@@ -123,7 +123,7 @@ struct Log {
 }
 
 impl Log {
-    /// The serial number of the data that the event tells of, to which its changes lead.
+    /// The serial number of the event's data, to which its changes lead.
     fn serial(&mut self, event: &Event<'_>) -> u32 {
         let (data, changes) = match event {
             Event::Data { data, changes } => (data, changes),
@@ -598,8 +598,8 @@ fn fifty_clients() {
     assert!(holds(|| host.server.clients() == 0));
 }
 
-/// A server has its data after a restart, also one in a thread, and tells a client that asked before
-/// it had them.
+/// A server has its data after a restart, also one in a thread, and tells a client that asked
+/// before it had them.
 #[test]
 fn restarts() {
     let _alone = alone();

@@ -96,7 +96,7 @@ impl Authority {
     }
 }
 
-/// The files of those that show certificates, in a folder that is removed.
+/// The certificates and keys of both ends, in a folder that is removed.
 pub struct Folder {
     path: PathBuf,
     pub authority: Authority,
