@@ -7,7 +7,7 @@ from rtr_wire._rtr import Entry
 from rtr_wire.data import Data
 from rtr_wire.server import Server, UpdateError
 from rtr_wire.serving import ServerLimits
-from rtr_wire.store import Store
+from rtr_wire.store import SavedFile, Store
 
 from .scene_input import play
 
@@ -60,6 +60,13 @@ class Loop:
 
     def create_future(self):
         return None
+
+
+class Nowhere(SavedFile):
+    """A file that isn't written."""
+
+    def save(self, store):
+        pass
 
 
 class Socket:
@@ -156,16 +163,13 @@ class End:
     def updates(self, data):
         """Gives the server data. For a scene that goes back to a session, the server forgets which
         ones it left."""
-        def nowhere(_):
-            """Saves nothing."""
-
         try:
-            self.server._update(data, nowhere)
+            self.server._update(data, Nowhere("", is_own=True))
         except UpdateError as error:
             if error.status != server_module.StoresStatus.SESSION_LEFT:
                 raise
             self.server._store = Store()
-            self.server._update(data, nowhere)
+            self.server._update(data, Nowhere("", is_own=True))
 
     def forgets(self, serial):
         """Drops the changes from a serial number and from earlier ones."""
@@ -183,6 +187,7 @@ class End:
             self.server.save(words[0])
         elif step == "restores":
             self.server.restore(words[0])
+            self.server._file = Nowhere("", is_own=True)  # the file stays as it is
         elif words[0] == "connects":
             self.connects(Entry.REFUSE if words[1:] else Entry.SERVE)
         elif self.socket is not None:

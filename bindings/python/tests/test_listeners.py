@@ -19,7 +19,7 @@ BUFFER = 1 << 17  # bytes of a connection's send buffer
 
 
 class Listener(socket.socket):
-    """A listener that fails so many times before it accepts a connection, one number for each."""
+    """A listener that fails before it accepts each connection, as often as these numbers say."""
 
     def __init__(self, failures):
         super().__init__(socket.AF_INET, socket.SOCK_STREAM)
@@ -114,7 +114,7 @@ class Updates(unittest.TestCase):
             with contextlib.suppress(UpdateError):  # the other one came first
                 server.update_saved(data(serial, [serial]), "data.kept")
 
-        with mock.patch("rtr_wire.server.save", saves):
+        with mock.patch("rtr_wire.store.save", saves):
             threads = [threading.Thread(target=updates, args=(serial,)) for serial in (1, 2)]
             for thread in threads:
                 thread.start()

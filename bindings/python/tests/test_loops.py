@@ -30,7 +30,7 @@ class Blocking(unittest.TestCase):
 
     def test_two_loops(self):
         """Each of two loops over a client has a connection and data of its own, and gets requests.
-        One goes on when the other is left."""
+        One loop continues after the other is left."""
         with Cache(asked_twice(FIRST, SECOND)) as cache, Cache(asked_twice(SECOND, THIRD)) as other:
             ports = iter((cache.port, other.port))
             client = Client(settings=SOON, failed=patient(), connect=lambda seconds:
@@ -61,7 +61,7 @@ class ForAsyncio(unittest.TestCase):
 
     def test_two_loops(self):
         """Each of two loops over a client has a connection and data of its own, and gets requests.
-        One goes on when the other is left."""
+        One loop continues after the other is left."""
         async def follows(*caches):
             ports = iter([cache.port for cache in caches])
             client = AsyncClient(settings=SOON, failed=patient(), connect=lambda:

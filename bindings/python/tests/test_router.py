@@ -179,7 +179,7 @@ class Memory(Routed):
         answer is loaded."""
         steps = self.comes(*received)
         self.assertEqual(steps[0], Close())
-        self.assertIsInstance(steps[1].error, MemoryError)
+        self.assertEqual(repr(steps[1].error), "MemoryError('no memory')")
         self.assertEqual(self.router.data(self.now), FIRST)
         self.reconnects()
         self.assertEqual(self.comes(answer(SECOND))[0].data, SECOND)
@@ -201,7 +201,7 @@ class Memory(Routed):
         with mock.patch("rtr_wire._library.lengthen", side_effect=MemoryError):
             steps = self.comes(changes(FIRST, more))
         self.assertEqual(steps[0], Close())
-        self.assertIsInstance(steps[1].error, MemoryError)
+        self.assertEqual(repr(steps[1].error), "MemoryError('no memory')")
         self.assertEqual(self.router.data(self.now), FIRST)
         self.reconnects()
         self.assertEqual(self.comes(answer(more))[0].data, more)
@@ -234,7 +234,7 @@ class Memory(Routed):
         with mock.patch("rtr_wire._library.lengthen", side_effect=MemoryError):
             steps = self.steps()  # a query is unsent
         self.assertEqual([type(step) for step in steps], [Close, Failed])
-        self.assertIsInstance(steps[1].error, MemoryError)
+        self.assertEqual(repr(steps[1].error), "MemoryError('no memory')")
         self.assertEqual(self.router.data(self.now), FIRST)
 
     def test_changes(self):

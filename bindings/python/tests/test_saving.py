@@ -8,9 +8,9 @@ import time
 import unittest
 from unittest import mock
 
-from rtr_wire import (CacheResponse, DamagedError, Data, EndOfData, ResetQuery, SerialQuery,
-                      Server, ServerLimits, StoresStatus, TimeRule, UnsyncedError, UpdateError, Vrp,
-                      retry_after)
+from rtr_wire import (CacheResponse, DamagedError, Data, EndOfData, NotRestoredError,
+                      OtherFileError, ResetQuery, SerialQuery, Server, ServerLimits, StoresStatus,
+                      TimeRule, UnsyncedError, UpdateError, Vrp, retry_after)
 from rtr_wire._rtr import Step
 from rtr_wire.serving import Served
 
@@ -77,7 +77,8 @@ class Saving(Case):
             self.has_changes(after, 1, first, second)
             with self.assertRaises(UpdateError):
                 after.update_saved(data(2, [4]), path)
-        self.assertEqual(os.listdir(self.folder), ["kept"])
+            os.unlink(path)
+        self.assertEqual(os.listdir(self.folder), [])
 
     def test_a_folder_that_can_only_be_read(self):
         """What a killed save left stays there, and the data are restored."""
@@ -343,6 +344,7 @@ class Files(Case):
                 self.fails(lambda: server.update_saved(data(2, [2]), self.path), errno.EIO)
             self.assertEqual((os.listdir(self.folder), server.end.serial), (["kept"], 1))
             self.assertEqual(Server().restore(self.path), data(1, [1]))
+            self.path.unlink()
 
     def test_what_is_synced(self):
         """A file is synced when it has all its bytes, and then its folder; both are closed."""
@@ -376,7 +378,6 @@ class Files(Case):
     def test_a_file_of_c(self):
         """Servers in C and in Python restore what the other one saved."""
         first, second, third = data(1, [1, 2]), data(2, [2, 3]), data(3, [3])
-        other = self.folder / "other"
         end = self.folder / "cache_end"
         folder = PACKAGE.parent / "c"
         subprocess.run([*compiler(), "-std=c11", "-O1", "-o", end, "cache_end.c", "rtr_cache.c",
@@ -394,12 +395,91 @@ class Files(Case):
         server = Server()
         self.assertEqual(server.restore(self.path), second)
         self.has_changes(server, 1, first, second)
-        server.update_saved(third, other)
+        server.update_saved(third, self.path)
         # By C's clock the changes before were made in 1970, so that the new data replace them.
         query = bytes(SerialQuery(SESSION, 2, version=2)).hex()
-        got = play("scene python", "cache usual", f"0 restores {other}", "1 router connects",
-                   f"2 router> {query}")
+        got = play("scene python", "cache usual", f"0 restores {self.path}",
+                   "1 router connects", f"2 router> {query}")
         self.assertEqual(got, response() + bytes(second.delta(third)))
+
+
+class OneFile(Case):
+    """Which file a server doesn't replace."""
+
+    def refuses(self, server, content):
+        """The server doesn't replace the file, which has these bytes, and has no data."""
+        for _ in range(2):
+            with self.assertRaises(NotRestoredError) as caught:
+                server.update_saved(data(2, [2]), self.path)
+            self.assertEqual(str(caught.exception),
+                             f"{self.path}: the file exists, and wasn't restored")
+            self.assertEqual((caught.exception.errno, caught.exception.filename),
+                             (errno.EEXIST, str(self.path)))
+            self.assertEqual(self.path.read_bytes(), content)
+        self.assertFalse(pathlib.Path(f"{self.path}.new").exists())
+        self.assertIsNone(server.end)
+
+    def test_a_file_that_was_not_restored(self):
+        """Once it is restored or removed the server saves there."""
+        for restores in (True, False):
+            Server().update_saved(data(1, [1]), self.path)
+            server = Server()
+            self.refuses(server, self.path.read_bytes())
+            if restores:
+                server.restore(self.path)
+            else:
+                self.path.unlink()
+            server.update_saved(data(2, [2]), self.path)
+            self.assertEqual(Server().restore(self.path), data(2, [2]))
+            self.path.unlink()
+
+    def test_a_damaged_file(self):
+        """It stays after it was refused, until it is removed."""
+        server = Server()
+        for content in (b"", b"rtrkept2"):
+            self.path.write_bytes(content)
+            with self.assertRaises(DamagedError):
+                server.restore(self.path)
+            self.refuses(server, content)
+        self.path.unlink()
+        server.update_saved(data(2, [2]), self.path)
+        self.assertEqual(Server().restore(self.path), data(2, [2]))
+
+    def test_a_refusal_names_no_file(self):
+        self.path.touch()
+        for update in (lambda one: one.update_saved(data(1, [1]), self.folder / "other"),
+                       lambda one: one.update(data(1, [1]))):
+            server = Server()
+            self.refuses(server, b"")
+            self.assertTrue(update(server))
+
+    def test_a_file_before_the_first_save(self):
+        """One that appears after a first save failed isn't replaced, nor is a link to no file."""
+        server = Server()
+        with mock.patch("os.replace", side_effect=OSError(errno.EIO, "failed")):
+            with self.assertRaises(OSError):
+                server.update_saved(data(1, [1]), self.path)
+        os.symlink("nowhere", self.path)
+        for call in (lambda: server.update(data(1, [1])),
+                     lambda: server.update_saved(data(1, [1]), self.path)):
+            self.assertRaises(NotRestoredError, call)
+        self.path.unlink()
+        server.update(data(1, [1]))
+        self.assertEqual(Server().restore(self.path), data(1, [1]))
+
+    def test_another_file(self):
+        other, restored, named = self.folder / "other", Server(), Server()
+        Server().update_saved(data(1, [1]), self.path)
+        restored.restore(self.path)
+        named.update_saved(data(1, [1]), self.folder / "named")
+        for server, path in ((restored, self.path), (named, self.folder / "named")):
+            with self.assertRaises(OtherFileError) as caught:
+                server.update_saved(data(2, [2]), other)
+            self.assertEqual(str(caught.exception),
+                             f"{other}: the data are saved in another file: {path}")
+            self.assertEqual((server.end.serial, other.exists()), (1, False))
+            server.update(data(2, [2]))
+            self.assertEqual(Server().restore(path), data(2, [2]))
 
 
 class Pauses(unittest.TestCase):

@@ -167,7 +167,7 @@ class Answers(Servers):
             self.assertEqual([unit.serial for unit in await router.answer()], [2])
 
     async def test_data_of_another_thread(self):
-        """New data that another thread passes on are told to a loop that waits."""
+        """New data from another thread wake a waiting loop."""
         server = self.serves()
         server.update(data(1, [1]))
         router = await self.router()

@@ -70,10 +70,10 @@ from .faults import (DuplicateError, EmptyProvidersError, Fault, NoFormError, No
 from .following import follow
 from .group import NoPayloads
 from .lines import change_json, change_line, unit_lines, unit_objects
-from .reading import Normalised, Units, normalise, same_meaning, units
+from .reader import Normalised, Units, normalise, same_meaning, units
 from .router import Close, Connect, Failed, NoData, Router, SessionError, Settings, Update
 from .serving import BehindError, ServerError, ServerLimits
-from .store import DamagedError, UnsyncedError, retry_after
+from .store import DamagedError, NotRestoredError, OtherFileError, UnsyncedError, retry_after
 from .units import (AnyUnit, Aspa, CacheReset, CacheResponse, EndOfData, ErrorReport, IPv4Prefix,
                     IPv6Prefix, Payload, Prefix, ResetQuery, RouterKey, SerialNotify, SerialQuery,
                     Unit, Vrp, serial_order, version_has)
@@ -97,15 +97,16 @@ __all__ = [
     "AnyUnit", "Aspa", "AsyncClient", "BehindError", "CacheReset", "CacheResponse", "Cause",
     "Changes", "Client", "Close", "Connect", "Covering", "DamagedError", "Data", "DuplicateError",
     "EmptyProvidersError", "EndOfData", "ErrorCode", "ErrorReport", "Failed", "Fault", "Finding",
-    "IPv4Prefix", "IPv6Prefix", "Kind", "Loaded", "Mismatch", "NoData",
-    "NoFormError", "NoIndexError", "NoPayloads", "NoRoomError", "Normalised", "NotCanonicalError",
-    "OldSerialError", "OtherSessionError", "OtherVersionError", "Payload", "Prefix", "PrefixError",
-    "PrefixRule", "Reason", "ReportInsideError", "ResetInsideError", "ResetQuery", "Router",
-    "RouterKey", "Rule", "SerialNotify", "SerialOrder", "SerialQuery", "Server", "ServerClosed",
-    "ServerError", "ServerLimits", "SessionError", "Settings", "ShortError", "Side", "Status",
-    "StoresStatus", "TimeRule", "TooLongError", "TooManyError", "UndecidedError", "Unit",
-    "UnitLengthError", "UnitTypeError", "UnitVersionError", "Units", "UnknownError",
-    "UnsyncedError", "Update", "UpdateError", "Validity", "Vrp", "__version__", "change_json",
-    "change_line", "check", "follow", "load_data", "normalise", "retry_after", "same_meaning",
-    "serial_order", "unit_lines", "unit_objects", "units", "version_has",
+    "IPv4Prefix", "IPv6Prefix", "Kind", "Loaded", "Mismatch", "NoData", "NoFormError",
+    "NoIndexError", "NoPayloads", "NoRoomError", "Normalised", "NotCanonicalError",
+    "NotRestoredError", "OldSerialError", "OtherFileError", "OtherSessionError",
+    "OtherVersionError", "Payload", "Prefix", "PrefixError", "PrefixRule", "Reason",
+    "ReportInsideError", "ResetInsideError", "ResetQuery", "Router", "RouterKey", "Rule",
+    "SerialNotify", "SerialOrder", "SerialQuery", "Server", "ServerClosed", "ServerError",
+    "ServerLimits", "SessionError", "Settings", "ShortError", "Side", "Status", "StoresStatus",
+    "TimeRule", "TooLongError", "TooManyError", "UndecidedError", "Unit", "UnitLengthError",
+    "UnitTypeError", "UnitVersionError", "Units", "UnknownError", "UnsyncedError", "Update",
+    "UpdateError", "Validity", "Vrp", "__version__", "change_json", "change_line", "check",
+    "follow", "load_data", "normalise", "retry_after", "same_meaning", "serial_order",
+    "unit_lines", "unit_objects", "units", "version_has",
 ]

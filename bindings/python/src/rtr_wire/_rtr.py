@@ -47,6 +47,7 @@ FAILURE_NO_MEMORY = "no memory"
 FAILURE_EMPTY = "the cache has no payloads"
 FAILURE_STOPPED = "the client was stopped"
 FAILURE_SLOW = "the peer is too slow"
+FAILURE_NO_OTHER = "there is no other connection"
 FAILURE_MORE_READ = "more bytes were read than there is room for"
 FAILURE_MORE_SENT = "more bytes were sent than there are"
 FAILURE_BEHIND = "the router is too far behind"
@@ -56,6 +57,8 @@ FAILURE_OTHER_TIMES = "only the times differ from those of the present data"
 FAILURE_SESSION_LEFT = "the cache left this session: the data need a new one"
 FAILURE_OTHER_SESSION = "a cache that doesn't save has one session"
 FAILURE_UNSAVED = "the cache serves data that it didn't save"
+FAILURE_NOT_RESTORED = "the file exists, and wasn't restored"
+FAILURE_OTHER_FILE = "the data are saved in another file"
 FAILURE_UNSYNCED = "the folder isn't synced"
 FAILURE_HIGHER_VERSION = "the saved data are of a lower version: the data need a new session"
 FAILURE_DAMAGED = "the saved file is damaged: the data need a new session"
@@ -87,7 +90,7 @@ class Status(enum.IntEnum):
     TOO_MANY = 8
     # The output is too short for the next unit or text.
     NO_ROOM = 9
-    # rtr_write_unit: no such action, family or part.
+    # The action, the family or a part of a unit to write is wrong.
     NO_FORM = 10
     # A unit or an end of data breaks the canonical form of data or changes.
     NOT_CANONICAL = 12
@@ -98,7 +101,7 @@ class Status(enum.IntEnum):
     DUPLICATE = 14
     # A payload is withdrawn that isn't present.
     UNKNOWN = 15
-    # rtr_order: an ASPA is announced and then withdrawn, so the net change depends on the
+    # Changes to sort announce and then withdraw an ASPA, so the net change depends on the
     # data.
     UNDECIDED = 16
     # The index has fewer entries than there are units.
@@ -130,26 +133,27 @@ class PrefixRule(enum.IntEnum):
 class Kind(enum.IntEnum):
     """The kinds of units, numbered by PDU type."""
 
-    # RFC 8210 section 5.2.
+    # A serial notify (RFC 8210 section 5.2).
     SERIAL_NOTIFY = 0
-    # RFC 8210 section 5.3.
+    # A serial query (RFC 8210 section 5.3).
     SERIAL_QUERY = 1
-    # RFC 8210 section 5.4.
+    # A reset query (RFC 8210 section 5.4).
     RESET_QUERY = 2
-    # RFC 8210 section 5.5.
+    # A cache response (RFC 8210 section 5.5).
     CACHE_RESPONSE = 3
-    # RFC 8210 section 5.6.
+    # An IPv4 prefix (RFC 8210 section 5.6).
     IPV4_PREFIX = 4
-    # RFC 8210 section 5.7.
+    # An IPv6 prefix (RFC 8210 section 5.7).
     IPV6_PREFIX = 6
-    # RFC 6810 and RFC 8210 section 5.8.
+    # An end of data (RFC 6810 and RFC 8210 section 5.8).
     END_OF_DATA = 7
-    # RFC 8210 section 5.9.
+    # A cache reset (RFC 8210 section 5.9).
     CACHE_RESET = 8
-    # RFC 8210 section 5.10.
+    # A router key (RFC 8210 section 5.10).
     ROUTER_KEY = 9
-    # RFC 8210 section 5.11.
+    # An error report (RFC 8210 section 5.11).
     ERROR_REPORT = 10
+    # An ASPA, an autonomous system provider authorization.
     ASPA = 11
 
 
@@ -159,7 +163,7 @@ class ErrorCode(enum.IntEnum):
 
     # The data can't be parsed, or contradict themselves.
     CORRUPT_DATA = 0
-    # The peer failed for a reason of its own.
+    # The peer had an internal error.
     INTERNAL_ERROR = 1
     # The cache has no data yet.
     NO_DATA_AVAILABLE = 2
@@ -1226,9 +1230,10 @@ class rtr_link(Structure):
 class rtr_todo(Structure):
     # When to call rtr_link_next, if nothing comes before. It may have passed.
     wakes: int
-    # The offset of the unit that it is about, in all bytes of the connection; of a change that
-    # doesn't apply, that in the payload units of the answer; at an end that is about no unit,
-    # the number of bytes that came before those of the input.
+    # The offset of the unit that it is about, in all bytes of the connection. If an answer
+    # can't be applied, the offset of the refused change in the payload units of the answer, or
+    # 0 if none is refused. At any other end that is about no unit, the number of bytes that
+    # came before those of the input.
     position: int
     # The length that a buffer needs: in bytes, of the index in entries.
     room: int
@@ -1581,9 +1586,9 @@ class rtr_stores(Structure):
 
 
 class rtr_history_limits(Structure):
-    # A step is kept for this many milliseconds after it was made.
+    # The time for which a step is kept, in milliseconds.
     time: int
-    # The steps have at most this many bytes, with 16 bytes for each step.
+    # The greatest size of all steps in bytes, 16 bytes for each step included.
     bytes: int
 
     _fields_ = [

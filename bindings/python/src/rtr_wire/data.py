@@ -10,7 +10,7 @@ from . import _library, _rtr
 from ._library import CALLS, HEADER, ROUTE, Buffer, front, memory, number, whole
 from ._rtr import Covers, Mismatch, Status, Validity
 from .faults import Fault, TooManyError, fault, refusal
-from .reading import Units, count_units, normalise
+from .reader import Units, count_units, normalise
 from .units import EndOfData, Payload, Unit, Vrp
 
 Network = Union[ipaddress.IPv4Network, ipaddress.IPv6Network]

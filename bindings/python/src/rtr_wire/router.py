@@ -14,11 +14,11 @@ from ._rtr import Cause, ClientFailure, TodoKind
 from .data import Changes, Data, difference
 from .faults import refusal
 from .link import Link
-from .reading import Units
+from .reader import Units
 from .units import ErrorReport
 
 
-def said_in(report: ErrorReport) -> str:
+def report_text_of(report: ErrorReport) -> str:
     """Returns what an error report says."""
     return _library.report_text(report.code, report.text or b"")
 
@@ -44,7 +44,7 @@ class SessionError(Exception):
 
     def __str__(self) -> str:
         text = _library.name(_rtr.Named.CAUSE, self.cause)
-        return text if self.reported is None else f"{text}: {said_in(self.reported)}"
+        return text if self.reported is None else f"{text}: {report_text_of(self.reported)}"
 
 
 class NoData(SessionError):
@@ -313,8 +313,8 @@ class Router:
         """Queues why the connection ends."""
         try:
             error = self._reason(todo)
-        except MemoryError as no_memory:
-            error = no_memory
+        except MemoryError as cause:
+            error = _no_memory(cause)
         if error is not None:
             self._steps.append(Failed(error))
 
@@ -326,7 +326,7 @@ class Router:
         if failure == ClientFailure.NONE:
             return None
         if failure == ClientFailure.MEMORY:
-            return error if isinstance(error, MemoryError) else MemoryError(_rtr.FAILURE_NO_MEMORY)
+            return _no_memory(error if isinstance(error, MemoryError) else None)
         if failure == ClientFailure.LOST and error is not None:
             return error
         if failure == ClientFailure.REPORTED:
@@ -344,6 +344,14 @@ class Router:
         """Returns the cache's error report, at the offset in `todo`."""
         unit: Any = next(Units(self._link.about(todo.offset)), None)
         return unit if isinstance(unit, ErrorReport) else None
+
+
+def _no_memory(cause: Optional[MemoryError]) -> MemoryError:
+    """Returns the error of a lack of memory, with its text; those of the interpreter may have
+    none."""
+    error = MemoryError(_rtr.FAILURE_NO_MEMORY)
+    error.__cause__ = cause
+    return error
 
 
 def _settings(settings: Settings) -> Settings:

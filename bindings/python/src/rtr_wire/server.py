@@ -18,14 +18,11 @@ from ._rtr import Entry, Named, Step, StoresStatus, TimeRule
 from .data import Data
 from .loops import Clock
 from .serving import CHUNK, Edition, Served, ServerLimits
-from .store import Path, Span, Store, load, save
+from .store import OtherFileError, Path, SavedFile, Store, load, save
 from .units import EndOfData
 
 # A function that is called with the address of a router, and why its connection ended.
 OnEnd = Callable[[Any, Exception], Any]
-
-# A function that saves a store.
-Keep = Callable[[Span], None]
 
 # The size of a connection's send buffer: the system buffers no more for a slow router.
 _SEND_BUFFER = 1 << 17
@@ -98,7 +95,7 @@ class Server:
         CALLS.rtr_door_init(self._door, self._settings)
         self._updating = threading.Lock()  # guards the store
         self._store, self._edition = Store(), Edition()
-        self._keep: Optional[Keep] = None  # None as long as no file is named
+        self._file: Optional[SavedFile] = None  # None as long as no file is named
         self._may_change = False
         self._runs: Set[_Run] = set()
         self._is_closed = False
@@ -118,9 +115,9 @@ class Server:
         Returns whether they differ from the present data.
 
         A server with a file, which `restore` or `update_saved` named, first saves the data to it,
-        as `update_saved` does. One without a file doesn't save: all its data are of one session,
-        under which it never served data, at no earlier start either (RFC 8210 section 5.1). Any
-        thread may call it, so that the event loop doesn't wait:
+        as `update_saved` does. Without a file a server doesn't save: all its data are of one
+        session, which it may not have used at an earlier start (RFC 8210 section 5.1). Any thread
+        may call it, so that the event loop doesn't wait:
 
             await asyncio.to_thread(server.update, data)
 
@@ -136,11 +133,14 @@ class Server:
         """`update` that first saves the new data to this file, as `save` does, and lets later calls
         of `update` save to it. So the file has every serial number that a router may have data of,
         whenever the process ends, and after a restart none of them is used for other data. Restore
-        the file first, if there is one, and use one file. It blocks on the file system.
+        the file first, if there is one: a file that this server neither restored nor wrote isn't
+        replaced, as one that `restore` refused, until it is removed. All data are saved to one
+        file. It blocks on the file system.
 
-        Raises as `update`; a RuntimeError if the server has data that it didn't save.
+        Raises as `update`; a NotRestoredError, which is an OSError, or an OtherFileError; a
+        RuntimeError if the server has data that it didn't save.
         """
-        return self._update(data, lambda store: save(store, path))
+        return self._update(data, SavedFile(path))
 
     def change_session(self) -> None:
         """Lets the next data of a server that doesn't save be of another session, under which it
@@ -182,21 +182,19 @@ class Server:
                 raise RuntimeError("the server has data")
             store, history = load(path)
             _check_times(history.end)
-            self._store, self._keep = store, lambda taken: save(taken, path)
+            self._store, self._file = store, SavedFile(path, is_own=True)
             self._begin_edition()
         return history.data()
 
-    def _update(self, data: Data, keep: Optional[Keep]) -> bool:
-        """Takes new data, keeps their store by this function from now on, if there is one, and
-        serves them."""
+    def _update(self, data: Data, file: Optional[SavedFile]) -> bool:
+        """Takes new data, saves their store to this file from now on, if there is one, and serves
+        them."""
         if not isinstance(data, Data):
             raise TypeError(f"data must be Data, not {type(data).__name__}")
         _check_times(data.end)
         with self._updating:
             self._check_open()
-            if keep is not None:
-                self._check_saved()
-                self._keep = keep  # also if it fails: the file may have the data all the same
+            self._name(file)
             store = self._store_for(data)
             limits = _rtr.rtr_history_limits(self._settings.keep, self._settings.keep_bytes)
             answer = store.take(self._as_kept(data), _date(), limits)
@@ -204,9 +202,9 @@ class Server:
                 return False
             if answer.status != StoresStatus.OK:
                 raise self._refusal(StoresStatus(answer.status), data)
-            if self._keep is not None:
+            if self._file is not None:
                 try:
-                    self._keep(store.to_save())
+                    self._file.save(store.to_save())
                 except BaseException:
                     store.give_up()
                     raise
@@ -215,10 +213,23 @@ class Server:
             self._begin_edition()
         return True
 
+    def _name(self, file: Optional[SavedFile]) -> None:
+        """Saves to this file from now on, if it isn't None, and checks that the file may be
+        replaced. It stays named even if saving then fails, since it may have the data all the
+        same."""
+        if self._file is not None:
+            if file is not None and file.path != self._file.path:
+                raise OtherFileError(file.path, self._file.path)
+            self._file.check()
+        elif file is not None:
+            self._check_saved()
+            file.check()
+            self._file = file
+
     def _store_for(self, data: Data) -> Store:
         """Returns the store that takes new data: another one for the first data of a session of a
         server that doesn't save."""
-        if self._keep is None:
+        if self._file is None:
             end = self.end
             if end is None or self._may_change and data.session != end.session:
                 return Store.unsaved(data.session)
@@ -226,7 +237,7 @@ class Server:
 
     def _check_saved(self) -> None:
         """Raises a RuntimeError if data are served that weren't saved."""
-        if self._keep is None and self._edition.history is not None:
+        if self._file is None and self._edition.history is not None:
             raise RuntimeError(_rtr.FAILURE_UNSAVED)
 
     def _as_kept(self, data: Data) -> Data:

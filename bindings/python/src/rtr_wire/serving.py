@@ -10,15 +10,15 @@ from . import _library, _rtr
 from ._library import CALLS
 from ._rtr import Cut, Named, Reason, ServingKind, Step
 from .faults import refusal
-from .reading import Units
-from .router import bounded, milliseconds, said_in
+from .reader import Units
+from .router import bounded, milliseconds, report_text_of
 from .store import History, form_of
 from .units import ErrorReport
 
 # The most bytes of a send; a large answer is sent without a copy.
 CHUNK = 1 << 16
 
-# The limits that are times, and those that are numbers, with their bits.
+# The limits that are times, and the limits that are numbers, with their bits.
 _TIMES = ("first_limit", "idle_limit", "pause", "unit_limit", "write_limit", "response_limit",
           "report_limit", "keep")
 _NUMBERS = {"most_connections": 32, "most_refused": 32, "most_behind": 32,
@@ -111,7 +111,7 @@ class ServerError(Exception):
 
     def __str__(self) -> str:
         text = _library.name(Named.REASON, self.reason)
-        return text if self.reported is None else f"{text}: {said_in(self.reported)}"
+        return text if self.reported is None else f"{text}: {report_text_of(self.reported)}"
 
 
 class BehindError(ServerError):

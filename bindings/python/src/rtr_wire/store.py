@@ -21,7 +21,7 @@ _ENTRY = ctypes.sizeof(ctypes.c_size_t)
 # A first guess for the buffers of a call: a few bytes more than a unit. Few changes fit in them.
 _SLACK = 1 << 12
 
-# The index of a buffer among those of `Store.take`; that of the output is the last.
+# The buffers of `Store.take` by their number; the output is the last.
 _PLACES: Dict[int, int] = {Room.BUFFER: 0, Room.SPARE: 1}
 
 _NOTHING = Part(b"", 0)
@@ -37,6 +37,30 @@ class DamagedError(ValueError):
 class UnsyncedError(OSError):
     """A file has the new store, but its folder couldn't be synced: after a power cut the file may
     have the former one."""
+
+
+class NotRestoredError(FileExistsError):
+    """A file exists that the server neither restored nor wrote, so it isn't replaced: a restart
+    would lack the sessions that the file names. `filename` is its path."""
+
+    def __str__(self) -> str:
+        return f"{self.filename}: {self.strerror}"
+
+
+class OtherFileError(RuntimeError):
+    """The server saves its data in another file.
+
+    Attributes:
+        path: the file that was refused
+        saved: the file that has the data
+    """
+
+    def __init__(self, path: str, saved: str) -> None:
+        super().__init__(path, saved)
+        self.path, self.saved = path, saved
+
+    def __str__(self) -> str:
+        return f"{self.path}: {_rtr.FAILURE_OTHER_FILE}: {self.saved}"
 
 
 def retry_after(previous: float = 0.0) -> float:
@@ -168,8 +192,8 @@ class Store:
 
     @classmethod
     def start(cls, store: bytes) -> Optional[Store]:
-        """Returns the store with which a cache starts that saved these bytes; None if they aren't
-        a store."""
+        """Returns the store that these saved bytes hold, for a restart; None if they aren't a
+        store."""
         stores, answer, size = cls(), _rtr.rtr_stores_answer(), len(store)
         entries = size // _rtr.SHORTEST_PAYLOAD
         status = CALLS.rtr_stores_start_nonnull(
@@ -266,6 +290,35 @@ def save(store: Span, path: Path) -> None:
         _sync_folder(path)
     except OSError as error:
         raise UnsyncedError(*error.args) from error
+
+
+class SavedFile:
+    """The file of a server, to which no other process may write."""
+
+    def __init__(self, path: Path, is_own: bool = False) -> None:
+        self.path = os.fspath(path)
+        self._is_own = is_own  # the server restored the file, or wrote it
+
+    def check(self) -> None:
+        """Raises a NotRestoredError if there is a file that the server neither restored nor wrote,
+        or the OSError of looking for it. It is called just before a save, which would replace a
+        file that is written in between."""
+        if self._is_own:
+            return
+        try:
+            os.lstat(self.path)
+        except FileNotFoundError:
+            return
+        raise NotRestoredError(errno.EEXIST, _rtr.FAILURE_NOT_RESTORED, self.path)
+
+    def save(self, store: Span) -> None:
+        """Saves a store. The file is the server's from then on, unless it wasn't replaced."""
+        try:
+            save(store, self.path)
+        except UnsyncedError:
+            self._is_own = True
+            raise
+        self._is_own = True
 
 
 def load(path: Path) -> Tuple[Store, History]:
