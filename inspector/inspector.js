@@ -100,7 +100,7 @@ class Page {
             [this.#first, this.#second].forEach((opened) => opened?.drop());
             this.#show(first, second);
         } catch (error) {
-            say(error instanceof OutOfMemory ? `${name} is too long: ${error.message}`
+            say(error instanceof OutOfMemory ? `${name} is too long: ${error.cause}`
                 : `${name} can't be read: ${error.message}`);
             document.body.dataset.state = "failed";
         }

@@ -7,7 +7,7 @@ import { MISMATCHES, VALIDITIES, prefixText } from "./words.js";
 
 const by = (id) => document.getElementById(id);
 
-// VRPs that are shown.
+// The most VRPs that are listed.
 const MOST = 200;
 
 /** Returns the first bits of an address; the others are zero. */

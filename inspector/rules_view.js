@@ -5,7 +5,7 @@ import { many } from "./words.js";
 
 const by = (id) => document.getElementById(id);
 
-// How many are listed.
+// The most findings that are listed.
 const MOST = 2000;
 
 export class RulesView {

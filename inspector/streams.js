@@ -117,7 +117,8 @@ export class Stream {
     }
 }
 
-/** Inserts a segment into a list that is sorted by sequence numbers. Most come last. */
+/** Inserts a segment into a list that is sorted by sequence numbers. Most segments come in order,
+ * so it searches from the end. */
 function insert(sorted, segment) {
     let index = sorted.length;
     while (index > 0 && sorted[index - 1].from > segment.from) {
@@ -201,8 +202,8 @@ class Connections {
     }
 }
 
-/** Reads the connections of a capture. `report` is called with the progress; `breathe` lets the page
- * draw. A truncated capture is read up to its end, and `cut` is that offset. */
+/** Reads the connections of a capture. `report` is called with the progress; `breathe` lets the
+ * page draw. A truncated capture is read up to its end, and `cut` is that offset. */
 export async function connectionsOf(bytes, breathe, report = () => {}) {
     const found = new Connections();
     let cut = null;

@@ -107,18 +107,19 @@ export class Table {
     #goTo(top) {
         const last = Math.max(0, this.#count - this.#seen);
         this.#top = Math.max(0, Math.min(top, last));
-        const room = this.#spacer.offsetHeight - this.#body.clientHeight;
-        this.#setTo = this.#isScale ? Math.round(this.#top / last * room) : this.#top * HEIGHT;
+        const scrollRange = this.#spacer.offsetHeight - this.#body.clientHeight;
+        this.#setTo = this.#isScale ? Math.round(this.#top / last * scrollRange)
+            : this.#top * HEIGHT;
         this.#body.scrollTop = this.#setTo;
         this.#later();
     }
 
     #scrolled() {
         if (Math.abs(this.#body.scrollTop - this.#setTo) >= 2) {
-            const room = this.#spacer.offsetHeight - this.#body.clientHeight;
+            const scrollRange = this.#spacer.offsetHeight - this.#body.clientHeight;
             const last = Math.max(0, this.#count - this.#seen);
             this.#setTo = this.#body.scrollTop;
-            this.#top = this.#isScale ? this.#setTo / room * last : this.#setTo / HEIGHT;
+            this.#top = this.#isScale ? this.#setTo / scrollRange * last : this.#setTo / HEIGHT;
         }
         this.#later();
     }

@@ -15,7 +15,7 @@ import { EVENTS, SESSION, iterated } from "./iterated.js";
 import { functionOf, optionsOf, sessionOf, signalOf } from "./options.js";
 import { Run } from "./running.js";
 
-export { follow } from "./following.js";
+export { follow } from "./follow.js";
 
 // The number of random values that spread the waits of clients.
 const CHANCES = 1 << 16;

@@ -31,9 +31,9 @@ export async function opened({ host, port, tls }, { signal, milliseconds }) {
     throw last;
 }
 
-/** Opens a connection with a caller's `connect`, within these milliseconds, and passes its stream to
- * `done`, or else null and the error. Returns a controller: after its abort `done` isn't called, and
- * a stream that still comes is destroyed. */
+/** Opens a connection with a caller's `connect`, within these milliseconds, and passes its stream
+ * to `done`, or else null and the error. Returns a controller: after its abort `done` isn't called,
+ * and a stream that still comes is destroyed. */
 export function dial(connect, milliseconds, done) {
     const dialing = new AbortController();
     const { signal } = dialing;
@@ -161,7 +161,7 @@ export class Connection {
         return true;
     }
 
-    /** Sends bytes; the stream buffers those that can't be sent yet. */
+    /** Sends bytes; the stream buffers what can't be sent yet. */
     write(bytes) {
         if (bytes.length > 0 && this.#stream.writable) {
             this.#stream.write(bytes);

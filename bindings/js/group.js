@@ -70,11 +70,11 @@ export class Group {
 
     /** Reports what a member's link told it to do, once; its data have this number of payloads. */
     tells(now, member, todo, payloads) {
-        const told = { ...objectOf(todo, "todo") };
-        delete told.error; // the link's own field
-        fieldsOf(told, "todo", STRUCTS.todo.fields);
+        const fields = { ...objectOf(todo, "todo") };
+        delete fields.error; // the link's own field
+        fieldsOf(fields, "todo", STRUCTS.todo.fields);
         const at = this.#session.frame("todo");
-        writeStruct(this.#session.heap.view, "todo", at, told);
+        writeStruct(this.#session.heap.view, "todo", at, fields);
         return this.#call("rtr_group_tell", now, memberOf(member), at,
             numberOf(payloads, "payloads"));
     }

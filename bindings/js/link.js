@@ -1,7 +1,7 @@
 // A router's end of the protocol with buffers and data, without sockets or a clock.
 
 import { Cause, ClientFailure, LONGEST_UNIT, LinkStatus, STRUCTS, TodoKind } from "./rtr_table.js";
-import { NoData, SessionError } from "./fault.js";
+import { NoData, SessionError } from "./faults.js";
 import { bytesOf, numberOf } from "./given.js";
 import { OutOfMemory } from "./memory.js";
 import { unitOf } from "./units.js";
@@ -276,7 +276,8 @@ export class Link {
     /** Returns the fields of the error for the cache's report that a todo names. */
     #reported({ offset }) {
         const reported = this.#reportAt(offset);
-        return { reason: Cause.REPORTED, reported, said: this.#session.saidBy(reported) };
+        const reportText = this.#session.reportTextOf(reported);
+        return { reason: Cause.REPORTED, reported, reportText };
     }
 
     /** Returns the bytes of the unit at an offset of the input, as far as they came. */

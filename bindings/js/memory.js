@@ -1,13 +1,14 @@
 // The memory of a module: an allocator, and conversions of structs to plain objects.
 
-import { STRUCTS } from "./rtr_table.js";
+import { FAILURE_NO_MEMORY, STRUCTS } from "./rtr_table.js";
 
 const PAGE = 65536;
 
-/** The memory can't grow as needed. */
+/** The memory can't grow as needed; its cause is a text with the size. */
 export class OutOfMemory extends Error {
     constructor(wanted, reason) {
-        super(`the module's memory can't grow to ${wanted} bytes: ${reason}`);
+        const cause = `the module's memory can't grow to ${wanted} bytes: ${reason}`;
+        super(FAILURE_NO_MEMORY, { cause });
         this.name = "OutOfMemory";
         this.wanted = wanted;
     }

@@ -3,7 +3,7 @@
 import { Session } from "./rtr_wire.js";
 import { objectOf } from "./given.js";
 
-/** Checks each option by the function of `checks` with its name; returns those that are set. */
+/** Checks each option by its function in `checks`; returns the options that are set. */
 export function optionsOf(value, checks) {
     const named = Object.entries(objectOf(value, "options"))
         .filter(([, value]) => value !== undefined);

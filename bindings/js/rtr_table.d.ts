@@ -28,7 +28,7 @@ export const Status: {
     readonly TOO_MANY: 8;
     /** The output is too short for the next unit or text. */
     readonly NO_ROOM: 9;
-    /** rtr_write_unit: no such action, family or part. */
+    /** The action, the family or a part of a unit to write is wrong. */
     readonly NO_FORM: 10;
     /** A unit or an end of data breaks the canonical form of data or changes. */
     readonly NOT_CANONICAL: 12;
@@ -40,7 +40,7 @@ export const Status: {
     readonly DUPLICATE: 14;
     /** A payload is withdrawn that isn't present. */
     readonly UNKNOWN: 15;
-    /** rtr_order: an ASPA is announced and then withdrawn, so the net change depends on the
+    /** Changes to sort announce and then withdraw an ASPA, so the net change depends on the
      * data.
      */
     readonly UNDECIDED: 16;
@@ -73,26 +73,27 @@ export type PrefixRule = (typeof PrefixRule)[keyof typeof PrefixRule];
 
 /** The kinds of units, numbered by PDU type. */
 export const Kind: {
-    /** RFC 8210 section 5.2. */
+    /** A serial notify (RFC 8210 section 5.2). */
     readonly SERIAL_NOTIFY: 0;
-    /** RFC 8210 section 5.3. */
+    /** A serial query (RFC 8210 section 5.3). */
     readonly SERIAL_QUERY: 1;
-    /** RFC 8210 section 5.4. */
+    /** A reset query (RFC 8210 section 5.4). */
     readonly RESET_QUERY: 2;
-    /** RFC 8210 section 5.5. */
+    /** A cache response (RFC 8210 section 5.5). */
     readonly CACHE_RESPONSE: 3;
-    /** RFC 8210 section 5.6. */
+    /** An IPv4 prefix (RFC 8210 section 5.6). */
     readonly IPV4_PREFIX: 4;
-    /** RFC 8210 section 5.7. */
+    /** An IPv6 prefix (RFC 8210 section 5.7). */
     readonly IPV6_PREFIX: 6;
-    /** RFC 6810 and RFC 8210 section 5.8. */
+    /** An end of data (RFC 6810 and RFC 8210 section 5.8). */
     readonly END_OF_DATA: 7;
-    /** RFC 8210 section 5.9. */
+    /** A cache reset (RFC 8210 section 5.9). */
     readonly CACHE_RESET: 8;
-    /** RFC 8210 section 5.10. */
+    /** A router key (RFC 8210 section 5.10). */
     readonly ROUTER_KEY: 9;
-    /** RFC 8210 section 5.11. */
+    /** An error report (RFC 8210 section 5.11). */
     readonly ERROR_REPORT: 10;
+    /** An ASPA, an autonomous system provider authorization. */
     readonly ASPA: 11;
 };
 export type Kind = (typeof Kind)[keyof typeof Kind];
@@ -101,7 +102,7 @@ export type Kind = (typeof Kind)[keyof typeof Kind];
 export const ErrorCode: {
     /** The data can't be parsed, or contradict themselves. */
     readonly CORRUPT_DATA: 0;
-    /** The peer failed for a reason of its own. */
+    /** The peer had an internal error. */
     readonly INTERNAL_ERROR: 1;
     /** The cache has no data yet. */
     readonly NO_DATA_AVAILABLE: 2;
@@ -630,9 +631,10 @@ export interface Action {
 export interface TodoFields {
     /** When to call rtr_link_next, if nothing comes before. It may have passed. */
     wakes: number;
-    /** The offset of the unit that it is about, in all bytes of the connection; of a change that
-     * doesn't apply, that in the payload units of the answer; at an end that is about no unit,
-     * the number of bytes that came before those of the input.
+    /** The offset of the unit that it is about, in all bytes of the connection. If an answer
+     * can't be applied, the offset of the refused change in the payload units of the answer, or
+     * 0 if none is refused. At any other end that is about no unit, the number of bytes that
+     * came before those of the input.
      */
     position: number;
     /** The length that a buffer needs: in bytes, of the index in entries. */

@@ -142,9 +142,11 @@ export class LinkError extends Error {
     readonly status: LinkStatus;
 }
 
-/** The module's memory can't grow as needed. */
+/** The module's memory can't grow as needed. The message is "no memory", as in all languages. */
 export class OutOfMemory extends Error {
     readonly name: "OutOfMemory";
+    /** A text with that size, and what limits it. */
+    readonly cause: string;
     /** The size in bytes that it would need. */
     readonly wanted: number;
 }
@@ -414,8 +416,8 @@ export class Session {
     statusText(status: number, detail?: number): string;
     /** Returns that text with the offset of a unit, as in a Fault's message. */
     statusTextAt(status: number, detail: number, offset: number | bigint): string;
-    /** Returns what an error report says: the name of its code, and in quotes the first bytes of its
-     * text, of which any but printable ASCII is a question mark. */
+    /** Returns what an error report says: the name of its code, and in quotes the first bytes of
+     * its text, of which any but printable ASCII is a question mark. */
     reportText(code: number, text: Bytes): string;
     /** Returns the name of a number; `named` selects of what: "IPv4 prefix" for Named.KIND and
      * 4. */
@@ -426,9 +428,9 @@ export class Session {
     /** Returns a group of up to 16 members. */
     group(members: number, now: number, settings?: Partial<GroupSettings>): Group;
     usualSettings(highest: number): Settings;
-    /** Returns how many milliseconds a program waits before it calls `updateSaved` of a server again
-     * with data that couldn't be saved, given its pause before the last try, or 0 after the first:
-     * a second at first, then twice the last pause, at most a minute. */
+    /** Returns how many milliseconds a program waits before it calls `updateSaved` of a server
+     * again with data that couldn't be saved, given its pause before the last try, or 0 after the
+     * first: a second at first, then twice the last pause, at most a minute. */
     retryAfter(previous: number): number;
     serialOrder(left: number, right: number): SerialOrder;
     versionHas(version: number, kind: Kind): boolean;

@@ -15,7 +15,7 @@ export { ActionKind, Cause, ErrorCode, GroupShown, Kind, LinkStatus, Mismatch, N
     kindText, statusText } from "./rtr_table.js";
 export { OutOfMemory } from "./memory.js";
 export { Unsupported, has64BitMemory } from "./module.js";
-export { Empty, Fault, NoData, SessionError } from "./fault.js";
+export { Empty, Fault, NoData, SessionError } from "./faults.js";
 export { Dropped, Held, Session } from "./session.js";
 export { Data } from "./data.js";
 export { Router } from "./router.js";

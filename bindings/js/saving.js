@@ -1,7 +1,8 @@
 // Files of what a server saves.
 
-import { open, readFile, rename, rm } from "node:fs/promises";
+import { lstat, open, readFile, rename, rm } from "node:fs/promises";
 import { dirname } from "node:path";
+import { FAILURE_NOT_RESTORED, FAILURE_OTHER_FILE } from "./rtr_table.js";
 
 /** A file has the new data, but its folder couldn't be synced: after a power cut the file may have
  * the previous data. Its `cause` is the error of the system. */
@@ -13,7 +14,71 @@ export class Unsynced extends Error {
     }
 }
 
+/** A file exists that the server neither restored nor wrote, so it isn't replaced: a restart would
+ * lack the sessions that the file names. `path` is the file, and `code` EEXIST. */
+export class NotRestored extends Error {
+    constructor(path) {
+        super(`${path}: ${FAILURE_NOT_RESTORED}`);
+        this.name = "NotRestored";
+        this.path = path;
+        this.code = "EEXIST";
+    }
+}
+
+/** The server saves its data in another file than this `path`. */
+export class OtherFile extends Error {
+    constructor(path, saved) {
+        super(`${path}: ${FAILURE_OTHER_FILE}: ${saved}`);
+        this.name = "OtherFile";
+        this.path = path;
+    }
+}
+
 const besideOf = (path) => `${path}.new`;
+
+/** The file of a server, to which no other process may write. */
+export class SavedFile {
+    #isOwn; // the server restored the file, or wrote it
+
+    constructor(path, isOwn = false) {
+        this.path = path;
+        this.#isOwn = isOwn;
+    }
+
+    /** Throws NotRestored if there is a file that the server neither restored nor wrote, or the
+     * error of the system. Call it just before a save, which would replace a file that is written
+     * in between. */
+    async check() {
+        if (!this.#isOwn && await exists(this.path)) {
+            throw new NotRestored(this.path);
+        }
+    }
+
+    /** Replaces the file, as `replace` does. It is the server's from then on, unless it wasn't
+     * replaced. */
+    async save(pieces) {
+        try {
+            await replace(this.path, pieces);
+        } catch (error) {
+            this.#isOwn ||= error instanceof Unsynced;
+            throw error;
+        }
+        this.#isOwn = true;
+    }
+}
+
+/** Reports whether there is a file, or a link, of this name. */
+async function exists(path) {
+    try {
+        await lstat(path);
+        return true;
+    } catch (error) {
+        if (error.code !== "ENOENT") {
+            throw error;
+        }
+        return false;
+    }
+}
 
 /** Replaces a file by one of these pieces of bytes: writes and syncs a file beside it, renames
  * that, and syncs the folder.

@@ -33,6 +33,21 @@ export class UpdateError extends Error {
     readonly status: StoresStatus | null;
 }
 
+/** A file exists that the server neither restored nor wrote, so it isn't replaced: a restart would
+ * lack the sessions that the file names. */
+export class NotRestored extends Error {
+    /** Of the file. */
+    readonly path: string;
+    /** EEXIST. */
+    readonly code: string;
+}
+
+/** The server saves its data in another file. */
+export class OtherFile extends Error {
+    /** Of the file that was refused. */
+    readonly path: string;
+}
+
 /** A file has the new data, but its folder couldn't be synced: after a power cut the file may have
  * the previous data. `cause` is the error of the system, and `code` its code. */
 export class Unsynced extends Error {
@@ -87,8 +102,8 @@ export class Server {
      * change or save data run one after the other.
      *
      * A server with a file, which `restore` or `updateSaved` named, first saves the data to it, as
-     * `updateSaved` does. One without a file doesn't save: all its data are of one session, under
-     * which it never served data, at no earlier start either (RFC 8210 section 5.1).
+     * `updateSaved` does. Without a file a server doesn't save: all its data are of one session,
+     * which it may not have used at an earlier start (RFC 8210 section 5.1).
      *
      * Throws UpdateError, OutOfMemory, errors of the file, or Closed after `close` or `shutdown`;
      * then the data before are served. */
@@ -96,9 +111,11 @@ export class Server {
     /** The same, but first saves the new data to this file, as `save` does, and lets later calls of
      * `update` save to it. So whenever the process ends, the file has every serial number that a
      * router may have data of, and after a restart none of them is used for other data. Restore the
-     * file first, if there is one, and use one file.
+     * file first, if there is one: a file that this server neither restored nor wrote isn't
+     * replaced, as one that `restore` refused, until it is removed. All data are saved to one file.
      *
-     * Throws what `update` throws; UpdateError if the server has data that it didn't save. */
+     * Throws what `update` throws; NotRestored, OtherFile; UpdateError if the server has data that
+     * it didn't save. */
     updateSaved(data: Data, path: string): Promise<void>;
     /** Lets the next data of a server that doesn't save be of another session, under which it never
      * served data, at no earlier start either. The present data are served until then. A server
@@ -118,8 +135,8 @@ export class Server {
     save(path: string): Promise<void>;
     /** Loads what `save` wrote, if the server has no data yet, and returns the data of the file.
      * With the saved session and serial number, routers get changes after a restart; later data are
-     * saved to this file before they are served. Call it before `listen`. It reads files of versions
-     * before 0.3.0, too.
+     * saved to this file before they are served. Call it before `listen`. It reads files of
+     * versions before 0.3.0, too.
      *
      * Throws an error of the file, with the code ENOENT if there is none; UpdateError if it is
      * damaged or has invalid times; OutOfMemory; Closed after `close` or `shutdown`. */

@@ -15,20 +15,20 @@ import { createServer as createTlsServer } from "node:tls";
 import { Entry, FAILURE_UNSAVED, STRUCTS } from "./rtr_table.js";
 import { now } from "./bell.js";
 import { Data } from "./data.js";
-import { Closed } from "./fault.js";
+import { Closed } from "./faults.js";
 import { fieldsOf, numberOf, objectOf, textOf } from "./given.js";
 import { Kept } from "./kept.js";
 import { writeStruct } from "./memory.js";
 import { optionsOf, sessionOf, signalOf } from "./options.js";
 import { load } from "./rtr_wire.js";
-import { replace, restored } from "./saving.js";
-import { Served } from "./served.js";
+import { OtherFile, replace, restored, SavedFile } from "./saving.js";
+import { Served } from "./serving.js";
 import { RouterSocket } from "./socket.js";
 import { Store, UpdateError } from "./store.js";
 
 export { Reason, StoresStatus } from "./rtr_table.js";
-export { Behind, Closed, ServerError } from "./fault.js";
-export { Unsynced } from "./saving.js";
+export { Behind, Closed, ServerError } from "./faults.js";
+export { NotRestored, OtherFile, Unsynced } from "./saving.js";
 export { UpdateError } from "./store.js";
 
 /** The fields of both structs of settings. */
@@ -55,7 +55,7 @@ const LISTENER = { allowHalfOpen: true, noDelay: true };
 /** The event that a connection has left; private to this file. */
 const LEFT = Symbol("left");
 
-/** Returns the settings of rtr.h, with those that are given. */
+/** Returns the default settings of rtr.h, with the given ones in their place. */
 function settingsOf(rtr, given) {
     rtr.call("rtr_server_settings_usual", rtr.frame("serverSettings"));
     const usual = rtr.answer("serverSettings");
@@ -106,7 +106,7 @@ export class Server extends EventEmitter {
     #rtr = null;
     #settings; // a struct rtr_server_settings
     #store;
-    #path = null; // of the file; null as long as none is named
+    #file = null; // a SavedFile; null as long as none is named
     #mayChange = false; // the next data may be of another session, though there is no file
     #door;
     #kept = { edition: null }; // the newest edition, for connections
@@ -135,9 +135,8 @@ export class Server extends EventEmitter {
     async updateSaved(data, path) {
         dataOf(data);
         textOf(path, "path");
-        await this.#inTurn(() => {
-            this.#checkSaved();
-            this.#path = path; // also if it fails: the file may have the data all the same
+        await this.#inTurn(async () => {
+            await this.#names(path);
             return this.#takes(data);
         });
     }
@@ -243,7 +242,7 @@ export class Server extends EventEmitter {
     #storeFor({ end: { session } }) {
         const { edition } = this.#kept;
         const changes = this.#mayChange && session !== this.data?.end.session;
-        if (this.#path !== null || (edition !== null && !changes)) {
+        if (this.#file !== null || (edition !== null && !changes)) {
             return this.#store;
         }
         const store = this.#newStore(edition?.number);
@@ -251,9 +250,22 @@ export class Server extends EventEmitter {
         return store;
     }
 
+    /** Saves to this file from now on. It stays named even if saving then fails, since it may have
+     * the data all the same. */
+    async #names(path) {
+        if (this.#file === null) {
+            this.#checkSaved();
+            const file = new SavedFile(path);
+            await file.check();
+            this.#file = file;
+        } else if (path !== this.#file.path) {
+            throw new OtherFile(path, this.#file.path);
+        }
+    }
+
     /** Throws an UpdateError if data are served that weren't saved. */
     #checkSaved() {
-        if (this.#path === null && this.data !== null) {
+        if (this.#file === null && this.data !== null) {
             throw new UpdateError(null, FAILURE_UNSAVED);
         }
     }
@@ -277,13 +289,14 @@ export class Server extends EventEmitter {
 
     /** Takes new data, and serves them, once they are saved if there is a file. */
     async #takes(data) {
+        await this.#file?.check();
         const store = this.#storeFor(data);
         if (!store.take(data, Date.now())) {
             return;
         }
-        if (this.#path !== null) {
+        if (this.#file !== null) {
             try {
-                await replace(this.#path, store.file);
+                await this.#file.save(store.file);
             } catch (error) {
                 store.giveUp();
                 throw error;
@@ -308,7 +321,7 @@ export class Server extends EventEmitter {
             store.drop();
             return data;
         }
-        this.#path = path;
+        this.#file = new SavedFile(path, true);
         this.#uses(store);
         return data;
     }

@@ -3,7 +3,7 @@
 import { FUNCTIONS, HEADER_SIZE, IPV4_SIZE, LINE_ROOM, LONGEST_UNIT, REPORT_TEXT_ROOM, STRUCTS,
     Status } from "./rtr_table.js";
 import { Heap, offsetsOf, readStruct, writeStruct } from "./memory.js";
-import { Fault } from "./fault.js";
+import { Fault } from "./faults.js";
 import { byteOf, bytesOf, fieldsOf, longOf, numberOf, objectOf, shortOf, wordOf }
     from "./given.js";
 import { Shown, structOf, unitOf } from "./units.js";
@@ -245,7 +245,7 @@ export class Session {
     fault(fields) {
         const { status, detail = 0, offset = 0 } = fields;
         const text = this.statusText(status, detail);
-        return new Fault({ ...fields, text, said: this.statusTextAt(status, detail, offset) });
+        return new Fault({ ...fields, text, message: this.statusTextAt(status, detail, offset) });
     }
 
     #code(status, at, length) {
@@ -546,7 +546,7 @@ export class Session {
     }
 
     /** Returns what a report says that was read. */
-    saidBy({ code, textBytes }) {
+    reportTextOf({ code, textBytes }) {
         return this.reportText(code, textBytes ?? NOTHING);
     }
 

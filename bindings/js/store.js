@@ -59,13 +59,13 @@ export function putPresent(rtr, edition) {
 }
 
 /** Repeats a call with more memory, until no part of it is too short, and returns its answer. */
-function withRoom(room, call) {
+function withLengths(lengths, call) {
     for (;;) {
-        const answer = call(room);
+        const answer = call(lengths);
         if (answer.status !== StoresStatus.NO_ROOM) {
             return answer;
         }
-        room[ROOMS[answer.room]] = answer.wanted;
+        lengths[ROOMS[answer.room]] = answer.wanted;
     }
 }
 
@@ -106,8 +106,8 @@ export class Store {
             throw new UpdateError(StoresStatus.MALFORMED);
         }
         const { length } = this.#buffers[0];
-        const room = { index: Math.floor(length / SHORTEST_PAYLOAD), buffer: length };
-        const { status } = withRoom(room, () => this.#started(length, room));
+        const lengths = { index: Math.floor(length / SHORTEST_PAYLOAD), buffer: length };
+        const { status } = withLengths(lengths, () => this.#started(length, lengths));
         if (status !== StoresStatus.OK) {
             throw new UpdateError(status);
         }
@@ -141,8 +141,8 @@ export class Store {
         });
     }
 
-    /** Takes new data at this time since 1970 in milliseconds. Returns false if they are those that
-     * are served. They wait for `saved`, or `giveUp`; call `saved` also if the store isn't saved.
+    /** Takes new data at this time since 1970 in milliseconds. Returns false if the same data are
+     * served. New data wait for `saved`, or `giveUp`; call `saved` also if the store isn't saved.
      *
      * Throws an UpdateError if they are refused, and OutOfMemory; then nothing changes. */
     take(data, now) {
@@ -150,8 +150,8 @@ export class Store {
         const bytes = this.#form(data);
         const other = this.#other;
         try {
-            const { status, length } = withRoom(this.#firstRoom(bytes.length), (room) => (
-                this.#taken(bytes, now, room, other)));
+            const { status, length } = withLengths(this.#firstRoom(bytes.length), (lengths) => (
+                this.#taken(bytes, now, lengths, other)));
             if (status === StoresStatus.OK) {
                 this.#shrink(other, length);
                 return true;
@@ -364,9 +364,10 @@ class Edition {
 
     #since(version, serial) {
         const steps = this.#history.length - this.#forms.get(this.data.version).length;
-        const room = { index: Math.floor(steps / SHORTEST_PAYLOAD), buffer: 2 * steps,
+        const lengths = { index: Math.floor(steps / SHORTEST_PAYLOAD), buffer: 2 * steps,
             spare: this.#history.length, output: 2 * steps };
-        const { status, changes } = withRoom(room, () => this.#written(version, serial, room));
+        const { status, changes } = withLengths(lengths,
+            () => this.#written(version, serial, lengths));
         if (status !== StoresStatus.OK) {
             throw new UpdateError(status);
         }
@@ -376,13 +377,13 @@ class Edition {
     #written(version, serial, { index, buffer, spare, output }) {
         const session = this.#session;
         const { start, length } = this.#history;
-        return session.within([index * ENTRY, buffer, spare, output], (...rooms) => {
+        return session.within([index * ENTRY, buffer, spare, output], (...buffers) => {
             const lengths = [index, buffer, spare, output];
             session.call("rtr_history_since_nonnull", start, length, serial, version,
-                ...rooms.flatMap((at, place) => [at, lengths[place]]),
+                ...buffers.flatMap((at, number) => [at, lengths[number]]),
                 session.frame("storesAnswer"));
             const answer = session.answer("storesAnswer");
-            return { ...answer, changes: session.copy(rooms.at(-1), answer.length) };
+            return { ...answer, changes: session.copy(buffers.at(-1), answer.length) };
         });
     }
 }

@@ -7,7 +7,7 @@ import { openSync, readFileSync, writeSync } from "node:fs";
 import { createInterface } from "node:readline";
 import { StoresStatus, Step } from "../rtr_table.js";
 import { replace, restored } from "../saving.js";
-import { Served } from "../served.js";
+import { Served } from "../serving.js";
 import { Store, UpdateError } from "../store.js";
 import { opened } from "./opened.js";
 

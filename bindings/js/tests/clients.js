@@ -9,6 +9,7 @@ import { PassThrough } from "node:stream";
 import { setTimeout as sleep } from "node:timers/promises";
 import { Cause, Fault, NoData, OutOfMemory, SessionError, Status, load } from "../rtr_wire.js";
 import { Client, follow } from "../client.js";
+import { FAILURE_NO_MEMORY } from "../rtr_table.js";
 import { RESET_QUERY, answer, cache, cacheReset, end, notify, prefix, report, response,
     serialQuery, unused } from "./caches.js";
 import { NO_OPENSSL, certified } from "./certificates.js";
@@ -438,7 +439,8 @@ export const TESTS = {
             const updates = client[Symbol.asyncIterator]();
             const { value: { data } } = await updates.next();
             const next = updates.next();
-            assert.ok((await failed)[0] instanceof OutOfMemory);
+            const [error] = await failed;
+            assert.ok(error instanceof OutOfMemory && error.message === FAILURE_NO_MEMORY);
             await updates.return();
             assert.deepEqual([data.serial, (await next).done], [1, true]);
         });

@@ -173,8 +173,8 @@ export const TESTS = {
             [12, 'a"\n\u00e4', 'error code 12, "a"???"'],
             [1, `${"a".repeat(99)}bc`, `Internal Error, "${"a".repeat(99)}b"`],
         ]) {
-            const said = rtr.reportText(code, new TextEncoder().encode(text));
-            assert.equal(new SessionError({ reason: Cause.REPORTED, said }).message,
+            const reportText = rtr.reportText(code, new TextEncoder().encode(text));
+            assert.equal(new SessionError({ reason: Cause.REPORTED, reportText }).message,
                 `the cache reports an error: ${shown}`);
         }
     },

@@ -4,7 +4,7 @@ import assert from "node:assert/strict";
 import { setTimeout as sleep } from "node:timers/promises";
 import { Bell } from "../bell.js";
 import { Heap } from "../memory.js";
-import { STRUCTS, VERSION_NUMBER } from "../rtr_table.js";
+import { FAILURE_NO_MEMORY, STRUCTS, VERSION_NUMBER } from "../rtr_table.js";
 import { Data, Dropped, Fault, Kind, OtherVersion, OutOfMemory, Status, Unsupported, Validity,
     addressOf, addressText, has64BitMemory, load, prefixOf, statusText } from "../rtr_wire.js";
 
@@ -151,7 +151,8 @@ export const TESTS = {
         const small = await load(bytes, { most: rtr.another().memory + 65536 });
         const large = many(10000);
         assert.throws(() => small.hold(large), (error) => error instanceof OutOfMemory
-            && error.name === "OutOfMemory" && error.wanted > small.memory);
+            && error.name === "OutOfMemory" && error.wanted > small.memory
+            && error.message === FAILURE_NO_MEMORY && error.cause.includes(`${error.wanted}`));
         assert.throws(() => small.delta(large, large), OutOfMemory);
         assert.equal([...small.units(END)].length, 1);
     },

@@ -21,6 +21,7 @@ import { TESTS as given } from "./given.js";
 import { TESTS as handshakes } from "./handshakes.js";
 import { TESTS as links } from "./links.js";
 import { TESTS as own } from "./own.js";
+import { TESTS as saves } from "./saves.js";
 import { TESTS as servers } from "./servers.js";
 import { TESTS as streams } from "./streams.js";
 
@@ -85,7 +86,7 @@ function missing(name) {
 }
 
 /** The tests of JavaScript only. */
-const GROUPS = { own, given, large, links, clients, follows, servers, streams, handshakes };
+const GROUPS = { own, given, large, links, clients, follows, servers, saves, streams, handshakes };
 
 if (!existsSync(MODULE)) {
     console.error(`there is no ${MODULE}: node run.js MODULE names another`);

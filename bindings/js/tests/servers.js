@@ -3,7 +3,8 @@
 import assert from "node:assert/strict";
 import { spawn } from "node:child_process";
 import { once } from "node:events";
-import fs, { existsSync, mkdirSync, mkdtempSync, readFileSync, rmSync, writeFileSync } from "node:fs";
+import fs, { existsSync, mkdirSync, mkdtempSync, readFileSync, renameSync, rmSync, writeFileSync }
+    from "node:fs";
 import { syncBuiltinESMExports } from "node:module";
 import { connect, createServer } from "node:net";
 import { tmpdir } from "node:os";
@@ -81,7 +82,7 @@ export async function router(port) {
 }
 
 /** Runs a test with a temporary folder. */
-async function withFolder(run) {
+export async function withFolder(run) {
     const folder = mkdtempSync(join(tmpdir(), "rtr-"));
     try {
         await run(folder);
@@ -638,18 +639,21 @@ export const TESTS = {
     async savesFirst(rtr) {
         await withFolder(async (folder) => {
             await withServer(rtr, {}, async (server, port) => {
-                const [path, none] = [join(folder, "state"), join(folder, "none", "state")];
-                const missing = { code: "ENOENT" };
-                await assert.rejects(server.updateSaved(dataOf(rtr, 1, 1), none), missing);
+                const [there, away] = [join(folder, "there"), join(folder, "away")];
+                const [path, missing] = [join(there, "state"), { code: "ENOENT" }];
+                await assert.rejects(server.updateSaved(dataOf(rtr, 1, 1), path), missing);
                 await assert.rejects(server.update(dataOf(rtr, 1, 1)), missing);
                 assert.equal(server.data, null);
+                mkdirSync(there);
                 await server.updateSaved(dataOf(rtr, 1, 1), path);
                 const peer = await router(port);
                 await getsAll(peer, 1, 1);
-                await assert.rejects(server.updateSaved(dataOf(rtr, 2, 2), none), missing);
+                renameSync(there, away);
+                await assert.rejects(server.updateSaved(dataOf(rtr, 2, 2), path), missing);
                 assert.equal(server.data.serial, 1);
                 await getsAll(peer, 1, 1);
                 peer.close();
+                renameSync(away, there);
                 await Promise.all([server.updateSaved(dataOf(rtr, 2, 2), path),
                     server.updateSaved(dataOf(rtr, 3, 3), path)]);
                 assert.equal(server.data.serial, 3);

@@ -4,7 +4,8 @@ import { Cause, Fault, Kind, SessionError, Status, TodoKind, Validity, load } fr
 import type { Data, Loaded, Session, Unit } from "../rtr_wire.js";
 import { Client, follow } from "../client.js";
 import type { Update } from "../client.js";
-import { Reason, Server, ServerError, StoresStatus, UpdateError } from "../server.js";
+import { NotRestored, OtherFile, Reason, Server, ServerError, StoresStatus, UpdateError }
+    from "../server.js";
 
 /** Describes a unit, whose kind determines its fields. */
 function told(unit: Unit): string | null {
@@ -86,6 +87,7 @@ export async function served(rtr: Session, data: Data, signal: AbortSignal): Pro
         await server.changeSession();
     } catch (error) {
         console.log(error instanceof UpdateError && error.status === StoresStatus.OLD_SERIAL);
+        console.log(error instanceof NotRestored && error.code, error instanceof OtherFile);
     }
     const { port } = await server.listen({ port: 0, host: "::1", tls: { key: "", cert: "" } });
     await server.shutdown({ signal });
