@@ -301,7 +301,7 @@ func TestWrongPlaces(t *testing.T) {
 	_, address := started(t, folder, "--csv", "f", "--state", "taken")
 	for _, row := range []struct {
 		words, says string
-		status      int
+		status      words.Status
 	}{
 		{"--listen " + address, address + ": bind: address already in use", words.Failed},
 		{"--listen nowhere.invalid:3323", "nowhere.invalid", words.Failed},

@@ -225,12 +225,8 @@ func (o *options) file(format payloads.Format) func(string) error {
 		if err != nil {
 			return err
 		}
-		for _, other := range o.settings.Files {
-			if other.Path == file.Path {
-				return fmt.Errorf("%s is given twice", file.Path)
-			}
-		}
-		o.settings.Files = append(o.settings.Files, file)
-		return nil
+		o.settings.Files, err = words.Appended(o.settings.Files, file,
+			func(file payloads.File) string { return file.Path })
+		return err
 	}
 }

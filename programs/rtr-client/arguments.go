@@ -54,17 +54,12 @@ protocol (RFC 6810, RFC 8210), and prints what is announced and withdrawn.`,
 }
 
 // address parses the address of the next cache.
-func (o *options) address(word string) error {
+func (o *options) address(word string) (err error) {
 	if !words.IsAddress(word) {
 		return fmt.Errorf("%q isn't HOST:PORT", word)
 	}
-	for _, before := range o.addresses {
-		if before == word {
-			return fmt.Errorf("%s is given twice", word)
-		}
-	}
-	o.addresses = append(o.addresses, word)
-	return nil
+	o.addresses, err = words.Appended(o.addresses, word, func(word string) string { return word })
+	return err
 }
 
 // route parses the next route to validate.
@@ -98,10 +93,11 @@ func (o *options) check(given words.Given) (err error) {
 		return errors.New("no cache given: HOST:PORT")
 	case len(o.addresses) > rtr.MostMembers:
 		return fmt.Errorf("more than %d caches given", rtr.MostMembers)
-	case o.tls.Check() != nil:
-		return o.tls.Check()
-	case withoutTLS != nil:
-		return withoutTLS
+	}
+	if err := words.FirstOf(o.tls.Check(), withoutTLS); err != nil {
+		return err
+	}
+	switch {
 	case o.useTLS && o.ssh.User != "":
 		return errors.New("--tls and --ssh exclude each other")
 	case o.ssh.Partial():

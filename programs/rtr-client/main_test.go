@@ -141,7 +141,7 @@ func TestOnce(t *testing.T) {
 	nobody := trial.Reserved(t)
 	for _, row := range []struct {
 		words, output string
-		status        int
+		status        words.Status
 		says          []string
 	}{
 		{full, "+ IPv4 prefix 192.0.2.0/24-24 AS64496\n", words.Well, []string{full + ": session 7 serial 1 version 2: 1 payload"}},
@@ -310,7 +310,7 @@ func TestNoPayloads(t *testing.T) {
 	const line = "+ IPv4 prefix 198.51.100.0/24-24 AS64496\n"
 	for _, row := range []struct {
 		words  []string
-		status int
+		status words.Status
 		output string
 	}{
 		{[]string{empty, second}, words.Well, line},
@@ -356,7 +356,7 @@ func TestTLS(t *testing.T) {
 	go server.Serve(listener)
 	t.Cleanup(server.Close)
 	address := listener.Addr().String()
-	for line, status := range map[string]int{
+	for line, status := range map[string]words.Status{
 		"--tls --tls-ca ca --tls-cert cert --tls-key key":                          words.Well,
 		"--tls --tls-ca ca --tls-cert cert --tls-key key --tls-name cache.invalid": words.Refused,
 		"--tls --tls-ca ca":     words.Refused,
@@ -377,7 +377,7 @@ func TestWrongWords(t *testing.T) {
 	trial.Write(t, folder+"/file", "no certificate")
 	for _, row := range []struct {
 		words  string
-		status int
+		status words.Status
 		says   string
 	}{
 		{"", words.Usage, "no cache given: HOST:PORT"},

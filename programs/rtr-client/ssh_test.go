@@ -46,7 +46,7 @@ func TestSSH(t *testing.T) {
 	bound := transport.Bound{Kind: transport.SSH, Listener: listener}
 	go server.Serve(transport.Guarded(bound, ours.Secure, gate, nobody{}))
 	t.Cleanup(server.Close)
-	for known, status := range map[string]int{"known": words.Well, "others": words.Refused} {
+	for known, status := range map[string]words.Status{"known": words.Well, "others": words.Refused} {
 		process := trial.Start(t, folder, address, "--once", "--ssh", "rpki", "--ssh-key", "key", "--ssh-known-hosts", known)
 		if got := process.Status(); got != status {
 			t.Errorf("%s: status %d, %s", known, got, process.Stderr())

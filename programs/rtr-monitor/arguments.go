@@ -66,13 +66,9 @@ func (o *options) source(word string) error {
 	if err != nil {
 		return err
 	}
-	for _, before := range o.settings.Sources {
-		if before.Name == source.Name {
-			return fmt.Errorf("%s is given twice", source.Name)
-		}
-	}
-	o.settings.Sources = append(o.settings.Sources, source)
-	return nil
+	o.settings.Sources, err = words.Appended(o.settings.Sources, source,
+		func(source monitor.Source) string { return source.Name })
+	return err
 }
 
 // check returns an error if the options don't fit together, and finds the programs that read lists.
@@ -86,9 +82,11 @@ func (o *options) check(given words.Given) error {
 		return errors.New("at least two sources are needed")
 	case len(s.Sources) > monitor.MostSources:
 		return fmt.Errorf("more than %d sources given", monitor.MostSources)
-	case s.TLS.Check() != nil:
-		return s.TLS.Check()
-	case s.SSH.Partial():
+	}
+	if err := s.TLS.Check(); err != nil {
+		return err
+	}
+	if s.SSH.Partial() {
 		return errors.New("--ssh-user, --ssh-key and --ssh-known-hosts need each other")
 	}
 	var lists []payloads.File
@@ -106,8 +104,8 @@ func (o *options) check(given words.Given) error {
 		s.Reader.Check(given, lists...))
 }
 
-// unused returns an error if an option has no effect on any source, whose transports are used ("" is
-// that of lists). Without it caches would be asked over TCP, although TLS or SSH was meant.
+// unused returns an error if an option has no effect on any source, whose transports are used (""
+// is that of lists). Without it caches would be asked over TCP, although TLS or SSH was meant.
 func unused(given words.Given, used map[transport.Kind]bool) error {
 	for _, row := range []struct {
 		used  bool

@@ -14,10 +14,10 @@ import (
 	"fishreef/programs/internal/words"
 )
 
-func main() { os.Exit(run(os.Args[1:])) }
+func main() { os.Exit(int(run(os.Args[1:]))) }
 
 // run runs the program, and returns its exit status.
-func run(line []string) int {
+func run(line []string) words.Status {
 	opts, err := arguments(line)
 	if errors.Is(err, words.ErrHelp) {
 		return words.Well

@@ -246,7 +246,7 @@ func TestWrongWords(t *testing.T) {
 	folder := t.TempDir()
 	for _, row := range []struct {
 		words, says string
-		status      int
+		status      words.Status
 	}{
 		{"", "at least two sources are needed", words.Usage},
 		{"a:1", "at least two sources are needed", words.Usage},

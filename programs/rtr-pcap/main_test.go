@@ -165,7 +165,7 @@ func TestOptions(t *testing.T) {
 	path := capture(t, "file.pcap", append(append(other, session(router+1, cache)...), broken...)...)
 	for _, c := range []struct {
 		options, says string
-		status        int
+		status        words.Status
 	}{
 		{"--port 3323", lines, words.Well},
 		{"--connection 1", lines, words.Well},
@@ -192,7 +192,7 @@ func TestRefuses(t *testing.T) {
 	for _, c := range []struct {
 		line   []string
 		says   string
-		status int
+		status words.Status
 	}{
 		{nil, "no FILE given", words.Usage},
 		{[]string{"a", "b"}, "more than one FILE given", words.Usage},

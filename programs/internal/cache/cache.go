@@ -132,7 +132,8 @@ func (c *Cache) recordServed(data rtr.Data, from string, size *payloads.Size) {
 	c.log.Info(line)
 }
 
-// accepted returns the data that were accepted last: those that wait to be saved, or are served.
+// accepted returns the data that were accepted last: the data that wait to be saved, or else the
+// data that are served.
 func (c *Cache) accepted() rtr.Data {
 	if c.waits != nil {
 		return c.waits.data
@@ -152,8 +153,8 @@ func (c *Cache) next(merged rtr.Data) (rtr.Data, error) {
 	return merged.With(session, after(c.present.Serial()), c.settings.Timing)
 }
 
-// update serves new data, which replace those that wait to be saved. If they can't be saved, they
-// wait, too.
+// update serves new data, which replace any data that wait to be saved. If they can't be saved,
+// they wait, too.
 func (c *Cache) update(next rtr.Data, from string, size payloads.Size) error {
 	err := c.serve(next)
 	var unsaved *state.Unsaved

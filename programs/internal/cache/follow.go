@@ -175,9 +175,10 @@ func (c *Cache) take(
 	return err
 }
 
-// merged returns the payloads of all files with a new list of one, and the other files whose
-// offered lists are among them: those without other data; and all of them, if the data that were
-// taken contradict each other. So files that change one after the other can agree again.
+// merged returns the payloads of all files, with a new list for one of them. It first uses the
+// offered lists only of files without data, then of all files if the data contradict each other; it
+// also returns the files whose offered lists were used. So files that change one after the other
+// can agree again.
 func (c *Cache) merged(
 	file *followed, list payloads.List,
 ) (merged rtr.Data, others []*followed, err error) {

@@ -58,7 +58,7 @@ func (c *Clients) ServeHTTP(answer http.ResponseWriter, ask *http.Request) {
 	lines.Encode(map[string][]Client{"clients": c.List()})
 }
 
-// The maximal number of clients with metrics of their own: those that connected first.
+// The maximal number of clients with metrics of their own: the ones that connected first.
 const mostMeasured = 100
 
 // The metrics of each client.

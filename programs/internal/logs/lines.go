@@ -10,9 +10,9 @@ import (
 	"github.com/sirupsen/logrus"
 )
 
-// Lines writes lines with fields, of which a cache with many routers has many, as its logger does.
-// If they are text, that takes a tenth of the time: it needs no map, keeps its memory, and formats
-// the time once a second. Safe for concurrent use.
+// Lines writes the same lines as the logger; as text in a tenth of the time, since a cache with
+// many routers logs many: it needs no map, keeps its memory, and formats the time once a second.
+// Safe for concurrent use.
 type Lines struct {
 	log    *logrus.Logger
 	isText bool

@@ -60,41 +60,50 @@ func New() *Metrics {
 		registry: prometheus.NewRegistry(),
 		flows:    newFlows(),
 		faults:   func() []trust.Fault { return nil },
-
-		connections: counters("connections_total",
-			"Connections accepted.", "transport"),
-		bytes: counters("bytes_total",
-			"Bytes of units (PDUs) sent and received.", "transport", "direction"),
-		reports: counters("error_reports_total",
-			"Error reports sent and received, by code.", "direction", "code"),
-		ended: counters("ends_total",
-			"Connections that ended abnormally, by reason.", "reason"),
-		refusals: counters("file_refusals_total",
-			"How often a file was refused or held.", "file"),
-		changes: counters("changes_total",
-			"Payloads announced and withdrawn, by kind.", "action", "kind"),
-		fetches: counters("fetches_total",
-			"Fetches of a list by URL, by result.", "file", "result"),
-		clients: gauges("clients",
-			"Connected routers, by the version of their first query.", "transport", "version"),
-		served: gauges("payloads", "Payloads served, by kind.", "kind"),
-		read: gauges("file_read_timestamp_seconds",
-			"When the file was accepted last.", "file"),
-		written: gauges("file_modified_timestamp_seconds",
-			"When the file that was accepted last was written.", "file"),
-		expired: gauges("expired_items",
-			"Expired items of the file when it was accepted last.", "file"),
-		confirmed: gauges("file_fetched_timestamp_seconds",
-			"When the server of a list had it last, new or unchanged.", "file"),
-		session: gauge("session", "Session of the data."),
-		serial:  gauge("serial", "Serial number of the data."),
-		changed: gauge("changed_timestamp_seconds", "When the data changed last."),
-		unsaved: prometheus.NewCounter(prometheus.CounterOpts{
-			Namespace: namespace, Name: "unsaved_total", Help: "Data that couldn't be saved.",
-		}),
 	}
+	m.makeCounters()
+	m.makeGauges()
 	m.register()
 	return m
+}
+
+// makeCounters makes the metrics that only grow.
+func (m *Metrics) makeCounters() {
+	m.connections = counters("connections_total",
+		"Connections accepted.", "transport")
+	m.bytes = counters("bytes_total",
+		"Bytes of units (PDUs) sent and received.", "transport", "direction")
+	m.reports = counters("error_reports_total",
+		"Error reports sent and received, by code.", "direction", "code")
+	m.ended = counters("ends_total",
+		"Connections that ended abnormally, by reason.", "reason")
+	m.refusals = counters("file_refusals_total",
+		"How often a file was refused or held.", "file")
+	m.changes = counters("changes_total",
+		"Payloads announced and withdrawn, by kind.", "action", "kind")
+	m.fetches = counters("fetches_total",
+		"Fetches of a list by URL, by result.", "file", "result")
+	m.unsaved = prometheus.NewCounter(prometheus.CounterOpts{
+		Namespace: namespace, Name: "unsaved_total", Help: "Data that couldn't be saved.",
+	})
+}
+
+// makeGauges makes the metrics with the present values.
+func (m *Metrics) makeGauges() {
+	m.clients = gauges("clients",
+		"Connected routers, by the version of their first query.", "transport", "version")
+	m.served = gauges("payloads", "Payloads served, by kind.", "kind")
+	m.read = gauges("file_read_timestamp_seconds",
+		"When the file was accepted last.", "file")
+	m.written = gauges("file_modified_timestamp_seconds",
+		"When the file that was accepted last was written.", "file")
+	m.expired = gauges("expired_items",
+		"Expired items of the file when it was accepted last.", "file")
+	m.confirmed = gauges("file_fetched_timestamp_seconds",
+		"When the server of a list had it last, new or unchanged.", "file")
+	m.session = gauge("session", "Session of the data.")
+	m.serial = gauge("serial", "Serial number of the data.")
+	m.changed = gauge("changed_timestamp_seconds", "When the data changed last.")
 }
 
 // register registers the metrics, the version, and the standard metrics of a Go process.

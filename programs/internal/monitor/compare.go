@@ -92,8 +92,8 @@ func only(source int) sources { return 1 << source }
 
 // known says which sources have a payload, as far as the changes show.
 type known struct {
-	announced sources // those that have it, if the pivot doesn't
-	withdrawn sources // those that lack it, if the pivot has it
+	announced sources // the sources that have it, if the pivot doesn't
+	withdrawn sources // the sources that lack it, if the pivot has it
 }
 
 // missing returns all payloads that some of the sources have and others lack.

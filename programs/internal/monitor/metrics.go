@@ -13,8 +13,8 @@ import (
 // namespace is the prefix of the names of all metrics.
 const namespace = "rtr_monitor_"
 
-// mostMeasured is the maximal number of old differences with metrics of their own: those that have
-// lasted longest.
+// mostMeasured is the maximal number of old differences with metrics of their own: the ones that
+// have lasted longest.
 const mostMeasured = 100
 
 // described is the description of a metric.

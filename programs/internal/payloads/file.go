@@ -114,7 +114,7 @@ type List struct {
 	Notes   string  // messages about the file
 }
 
-// Read reads the payloads of a file, without those that have expired.
+// Read reads the payloads of a file, without expired ones.
 //
 // Errors: ErrChanged; those of the system; the message of rtr_make about a file; why units can't be
 // loaded, with the offset.
@@ -183,17 +183,17 @@ func (r *Reader) read(
 	if file.Format == Sequence {
 		return r.loadUnits(input)
 	}
-	room := how.room(size)
-	if list, err = r.runMaker(ctx, input, room, r.words(file.Format, how)); err == nil {
+	capacity := how.capacity(size)
+	if list, err = r.runMaker(ctx, input, capacity, r.words(file.Format, how)); err == nil {
 		list.Anchors, err = anchorsOf(io.NewSectionReader(input, 0, rtr.MostDataBytes), file.Format)
 	}
 	return list, err
 }
 
-// room returns the size of a buffer for the data of a list of this size: with some space for more
+// capacity returns the size of a buffer for the data of a list of this size: with some space for more
 // than it had, and for the read that sees the end. Most items of a list take at least four times
 // the bytes of their unit.
-func (r Read) room(size int64) int {
+func (r Read) capacity(size int64) int {
 	if r.Size == 0 {
 		return int(size / 4)
 	}
@@ -257,9 +257,9 @@ func IsTransient(err error) bool {
 
 // runMaker returns the data that rtr_make makes of an input.
 func (r *Reader) runMaker(
-	ctx context.Context, input io.Reader, room int, line []string,
+	ctx context.Context, input io.Reader, capacity int, line []string,
 ) (list List, err error) {
-	output, messages, err := r.Maker.RunInto(ctx, input, room, line...)
+	output, messages, err := r.Maker.RunInto(ctx, input, capacity, line...)
 	if IsTransient(err) {
 		return List{}, err
 	}

@@ -10,6 +10,7 @@ import (
 	"sync"
 	"time"
 
+	"fishreef/programs/internal/transport"
 	"fishreef/rtr"
 )
 
@@ -136,12 +137,7 @@ func (r *recorded) keep(way way, piece []byte) {
 }
 
 // CloseWrite closes the writing side.
-func (r *recorded) CloseWrite() error {
-	if half, ok := r.Conn.(interface{ CloseWrite() error }); ok {
-		return half.CloseWrite()
-	}
-	return net.ErrClosed
-}
+func (r *recorded) CloseWrite() error { return transport.CloseWrite(r.Conn) }
 
 // Close closes the connection, and records an incomplete last unit.
 func (r *recorded) Close() error {

@@ -84,14 +84,16 @@ func (f *Folder) editions() string {
 	return filepath.Join(f.path, editionsName)
 }
 
-// Restore loads the folder's data into a server. A damaged file is renamed, and kept for
-// examination. It removes a file that a cache left that was killed while it saved.
+// Restore loads the folder's data into a server. A damaged file, or one with times that a cache may
+// not send, is renamed, and kept for examination: the server wouldn't replace it. It removes a file
+// that a cache left that was killed while it saved.
 //
-// Errors: os.ErrNotExist if the folder has no data; those of the system; rtr.ErrTorn.
+// Errors: os.ErrNotExist if the folder has no data; those of the system; rtr.ErrTorn and
+// rtr.ErrTiming.
 func (f *Folder) Restore(server *rtr.Server) (rtr.Data, error) {
 	os.Remove(f.editions() + ".new")
 	data, err := server.Restore(f.editions())
-	if errors.Is(err, rtr.ErrTorn) {
+	if errors.Is(err, rtr.ErrTorn) || errors.Is(err, rtr.ErrTiming) {
 		refused := filepath.Join(f.path, refusedName)
 		if failed := os.Rename(f.editions(), refused); failed != nil {
 			return rtr.Data{}, failed
@@ -113,7 +115,8 @@ func (u *Unsaved) Unwrap() error { return u.Reason }
 // Update saves new data, and then passes them to the server: so whenever the process ends, the
 // folder has every serial number that a router may have data of.
 //
-// Errors: an Unsaved; those of rtr.Server.Update. The server has the former data then.
+// Errors: an Unsaved, also for rtr.ErrNotRestored, if a file came into the folder after the start;
+// those of rtr.Server.Update. The server has the former data then.
 func (f *Folder) Update(server *rtr.Server, data rtr.Data) error {
 	err := server.UpdateSaved(data, f.editions())
 	if errors.As(err, new(syscall.Errno)) {

@@ -196,8 +196,11 @@ func (c *conn) HandshakeContext(ctx context.Context) error {
 }
 
 // CloseWrite closes the writing side, if the transport supports it.
-func (c *conn) CloseWrite() error {
-	if half, ok := c.Conn.(interface{ CloseWrite() error }); ok {
+func (c *conn) CloseWrite() error { return CloseWrite(c.Conn) }
+
+// CloseWrite closes the writing side of a connection, if its transport supports it.
+func CloseWrite(connection net.Conn) error {
+	if half, ok := connection.(interface{ CloseWrite() error }); ok {
 		return half.CloseWrite()
 	}
 	return net.ErrClosed

@@ -15,6 +15,8 @@ import (
 	"syscall"
 	"testing"
 	"time"
+
+	"fishreef/programs/internal/words"
 )
 
 // asked is the variable in the environment of a process that runs the program instead of the tests.
@@ -24,10 +26,10 @@ const asked = "RTR_TRIAL"
 const Wait = 120 * time.Second
 
 // Main runs the tests, or the program in a process that Start started.
-func Main(tests *testing.M, program func(line []string) int) {
+func Main(tests *testing.M, program func(line []string) words.Status) {
 	if os.Getenv(asked) != "" {
 		os.Unsetenv(asked)
-		os.Exit(program(os.Args[1:]))
+		os.Exit(int(program(os.Args[1:])))
 	}
 	WithPrebuilt()
 	os.Exit(tests.Run())
@@ -90,7 +92,7 @@ type Process struct {
 	t      *testing.T
 	run    *exec.Cmd
 	ended  chan struct{}
-	status int
+	status words.Status
 
 	lock   sync.Mutex
 	output []byte // standard output
@@ -116,7 +118,7 @@ func StartBy(t *testing.T, folder string, environment []string, run *exec.Cmd) *
 	go func() {
 		defer close(p.ended)
 		run.Wait()
-		p.status = run.ProcessState.ExitCode()
+		p.status = words.Status(run.ProcessState.ExitCode())
 	}()
 	t.Cleanup(p.Kill)
 	return p
@@ -221,7 +223,7 @@ func (p *Process) Kill() {
 }
 
 // Status waits for the end of the process, and returns its status.
-func (p *Process) Status() int {
+func (p *Process) Status() words.Status {
 	p.t.Helper()
 	select {
 	case <-p.ended:
@@ -233,7 +235,7 @@ func (p *Process) Status() int {
 
 // Refuses waits for the end of the process, and checks that it has this status, printed nothing but
 // one line on standard error, and that this line begins so and has this text.
-func (p *Process) Refuses(status int, begins, text string) {
+func (p *Process) Refuses(status words.Status, begins, text string) {
 	p.t.Helper()
 	got, stderr := p.Status(), p.Stderr()
 	if got != status || strings.Count(stderr, "\n") != 1 || !strings.HasPrefix(stderr, begins) ||
@@ -243,7 +245,7 @@ func (p *Process) Refuses(status int, begins, text string) {
 }
 
 // End sends SIGTERM, and returns the status.
-func (p *Process) End() int {
+func (p *Process) End() words.Status {
 	p.t.Helper()
 	p.Signal(syscall.SIGTERM)
 	return p.Status()

@@ -67,6 +67,17 @@ func FirstOf(errs ...error) error {
 	return nil
 }
 
+// Appended returns the list with another item, or an error if an item there has its name: it is
+// given twice.
+func Appended[Item any](list []Item, item Item, name func(Item) string) ([]Item, error) {
+	for _, other := range list {
+		if name(other) == name(item) {
+			return list, fmt.Errorf("%s is given twice", name(item))
+		}
+	}
+	return append(list, item), nil
+}
+
 // ErrHelp is returned for a command line that only asks for the help or the version.
 var ErrHelp = errors.New("the help or the version was asked for")
 
@@ -76,7 +87,7 @@ type Unwritten struct{ error }
 // Parse calls each option of a command line with its argument, and sets Given. If only the help or
 // the version is asked for, it writes that.
 //
-// Errors: ErrHelp; Unwritten; one that names the wrong argument.
+// Errors: ErrHelp; Unwritten; or an error that names the wrong argument.
 func (p *Program) Parse(line []string, output io.Writer) error {
 	if len(line) == 1 && isAlone(line[0]) {
 		text := p.Name + " " + Version + "\n"

@@ -61,7 +61,7 @@ func TestStatusOfLine(t *testing.T) {
 	for _, c := range []struct {
 		line   string
 		says   string
-		status int
+		status Status
 	}{
 		{"--help", "no space left on device", Failed}, {"--version", "no space left on device", Failed},
 		{"--help --version", "--help has to stand alone", Usage}, {"-h x", "-h has to stand alone", Usage},
@@ -180,7 +180,7 @@ func TestStatusOf(t *testing.T) {
 	exitOne := exec.Command("sh", "-c", "exit 1").Run()
 	for _, c := range []struct {
 		err    error
-		status int
+		status Status
 	}{
 		{missing, Failed}, {fmt.Errorf("f: %w", missing), Failed}, {busy, Failed},
 		{&net.DNSError{Err: "no such host"}, Failed}, {three, Failed},
