@@ -32,8 +32,8 @@ DOUBTED_SECONDS = 30
 # once more at most.
 LAST_SECONDS, ATTEMPTS = 30, 3
 
-# After how many seconds the routers of others ask again a cache that they lost: most have no time
-# of their own for it, so the cache says it. Our clients run at the times of each cache.
+# The retry time of other routers, in seconds. Most have no setting for it, so the cache sends it.
+# Our clients run at the times of each cache.
 THEIR_RETRY = 2
 
 # What a hostile client sends: a length of four gigabytes, a type that there isn't, a unit of a

@@ -29,7 +29,7 @@ RESET_WAIT = 100  # milliseconds: the loopback interface passes a reset at once
 LOOKS, LOOK = 5, 0.03  # how often a cache's descriptors are counted at rest, and the pause between
 # The numbers of answers of which the median of goroutines, and the least memory, count.
 ANSWERS, MEASURED = 5, 20
-# The goroutines by which one answer may have more than another: those that collect its numbers.
+# How many goroutines more than at the start are allowed: those of a metrics answer.
 COLLECTING = 3
 
 

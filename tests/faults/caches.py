@@ -246,7 +246,7 @@ def connect_and_leave(cache, number, read):
 
 
 def play_leavings(cache, count, faults, first):
-    """So many routers that come and leave, in turn, take no memory, and don't disturb one that
+    """Routers that come and leave, `count` in turn, take no memory, and don't disturb one that
     stays."""
     routers = Routers(cache, [1])
     steps = Router.ask_all, lambda router: router.expect_answer(1, MANY), 1, MANY

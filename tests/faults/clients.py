@@ -38,15 +38,20 @@ COUNTING = ("C client", "C link", "Python", "asyncio", "Node", "Rust that counts
 IN_C = ("C client", "C link")  # they free what the system found for a name
 
 # A cache whose first answer is a unit of a type that nobody knows: the client has to send a whole
-# report of this code about it (RFC 8210 section 12), and asks again.
+# report of this code about it (RFC 8210 section 12), and asks again. Where waits are interrupted,
+# every other one is.
 REFUSED = "a report by sends of a byte"
-UNKNOWN, UNKNOWN_TYPE = unit(5, 0), 5
+INTERRUPTED = "a report by interrupted waits"
+UNKNOWN_TYPE = 5
 
 # The same, but the cache doesn't close when the client has closed for writing: that gives it two
 # seconds (RTR_LAST_REPORT_LIMIT), and connects again after one at most. The seconds in which it has
 # to do that: less than with twice that limit.
 STAYS = "a report to a cache that doesn't close"
+STAYS_LONGER = "interrupted waits for a cache that doesn't close"
+STAYING = (STAYS, STAYS_LONGER)
 MOST_STAY = 4
+REPORTING = (REFUSED, INTERRUPTED, *STAYING)
 
 # A name whose first address takes no connection and refuses none: a client has to leave it in time
 # to try the second, where the cache is.
@@ -72,9 +77,11 @@ FAULTS = {
     "nothing": "",
     SILENT: "",
     STAYS: "",
+    STAYS_LONGER: "wait:1:0:EINTR:2 receive:1:0:EAGAIN:2",
     FAILING: f"connect:3:{2 + 2 * 2 * HUNDRED}:ECONNREFUSED",
     "sends of a byte": "send:1:0:1",
     REFUSED: "send:1:0:1",
+    INTERRUPTED: "send:1:0:16 wait:1:0:EINTR:2",
     "reads of a byte": "receive:1:0:1",
     "an interrupted send": "send:1:1:EINTR send:3:3:EINTR",
     "sends that would block": "send:1:2:EAGAIN send:4:4:EAGAIN",
@@ -223,23 +230,23 @@ class Run:
     reconnects after a short pause."""
 
     def __init__(self, command, faults, library, folder, name):
-        refused = UNKNOWN if name in (REFUSED, STAYS) else b""
+        identity = tls.identity_in(command)
+        self.version = 1 if identity else 2
+        self.unknown = unit(UNKNOWN_TYPE, 0, version=self.version)
         self.counts = name in (CONNECTS, FAILING)
         # After a connection without an answer a client may ask in version 1 (section 7).
         data = [item for item in DATA if name not in BREAKING or not isinstance(item, Aspa)]
-        self.cache = Cache(socket.AF_INET, data, refused, name == STAYS)
-        self.silent = silent_at(self.cache.port) if name == SILENT else ()
-        identity = tls.identity_in(command)
-        self.version, self.front = 2, None
-        if identity:
-            self.version, self.front = 1, tls.Front(self.cache.port, identity)
+        refused = self.unknown if name in REPORTING else b""
+        self.cache = Cache(socket.AF_INET, data, refused, name in STAYING)
+        self.front = tls.Front(self.cache.port, identity) if identity else None
+        # The name has two addresses in sockets.c, and the cache is at the second.
+        self.port = self.front.port if self.front else self.cache.port
+        self.silent = silent_at(self.port) if name == SILENT else ()
         self.fault_log, self.state_path, self.memory_path = (
             os.path.join(folder, name) for name in ("seen", "state", "memory"))
         counting = {"FAULTS_PAUSE": PAUSE, "FAULTS_MEMORY": self.memory_path} if self.counts else {}
         self.output_file = open(os.path.join(folder, "said"), "w+b")
-        # The name has two addresses in sockets.c, and the cache is at the second.
-        port = self.front.port if self.front else self.cache.port
-        words = [word.replace("ADDRESS", f"localhost:{port}") for word in command]
+        words = [word.replace("ADDRESS", f"localhost:{self.port}") for word in command]
         self.process = subprocess.Popen(
             words, stdout=subprocess.PIPE, stderr=self.output_file,
             env={**os.environ, "LD_PRELOAD": library, "FAULTS": faults,
@@ -293,7 +300,7 @@ class Run:
 
     def play(self, may_break, reconnects):
         self.read(self.lines_of(self.cache.history[1], "+"))
-        if self.silent and is_connecting(self.cache.port):
+        if self.silent and is_connecting(self.port):
             raise Wrong("it has data, and still opens a connection to the first address")
         first = self.resources()
         for number in range(1 + reconnects):
@@ -337,7 +344,8 @@ class Run:
     def check_report(self):
         """Checks that the client sent one report, about the unit of an unknown type."""
         reports = self.cache.reports
-        code, about = bytes([REPORT, 0, UNKNOWN_TYPE]), struct.pack(">I", len(UNKNOWN)) + UNKNOWN
+        code = bytes([REPORT, 0, UNKNOWN_TYPE])
+        about = struct.pack(">I", len(self.unknown)) + self.unknown
         if len(reports) != 1 or reports[0][1:4] != code or not reports[0][8:].startswith(about):
             raise Wrong(f"it sent these reports: {[report.hex() for report in reports]}")
 
@@ -374,10 +382,10 @@ def play(command, name, library, folder):
     try:
         reconnects = {CONNECTS: 2 * HUNDRED, SILENT: SILENT_RECONNECTS, FAILING: 1}.get(
             name, RECONNECTS)
-        run.play(name in BREAKING or name in (CONNECTS, FAILING, REFUSED, STAYS), reconnects)
-        if name in (REFUSED, STAYS):
+        run.play(name in BREAKING or name in (CONNECTS, FAILING, *REPORTING), reconnects)
+        if name in REPORTING:
             run.check_report()
-        if name == STAYS:
+        if name in STAYING:
             run.check_stay()
         if faults and not os.path.exists(run.fault_log):
             raise Wrong("the fault wasn't injected")
@@ -390,15 +398,15 @@ def play(command, name, library, folder):
 def names(program):
     """Returns the names of the runs of a client. In Go only calls of connections get faults, and a
     short write is one whose time is over, after which no more of a report is sent; and names are
-    looked up by Go itself. OpenSSL tries one address after another, without a limit for each."""
+    looked up by Go itself. Over TLS another program has the connection of the cache."""
     counts = [CONNECTS] if program in COUNTING else []
     if program == "Rust that counts":
         return counts
     if program == TLS:
-        return [name for name in FAULTS if name not in (SILENT, REFUSED, STAYS, FAILING)]
+        return [name for name in FAULTS if name not in (FAILING, *STAYING)]
     left_out = {*OVER_TLS} if program in IN_C else {*OVER_TLS, FAILING}
     if program == "tokio":
         left_out |= {name for name in FAULTS if interrupts_sockets(FAULTS[name])}
     if program == "Go":
-        left_out |= {"interrupted waits", REFUSED, SILENT}
+        left_out |= {"interrupted waits", REFUSED, INTERRUPTED, STAYS_LONGER, SILENT}
     return [*(name for name in FAULTS if name not in left_out), *counts]

@@ -2,7 +2,7 @@
 each part may be lost. The tracer (`traced.c`) lists the calls of a saving, from which follows what
 a cut between two of them may leave. A cache that is started over each of these folders has the data
 before, or the new data, whole; and the new ones if a router may have had them before the cut. After
-a cut in its first saving it has no data, and begins with others, or it has the first data whole.
+a cut in the first save it has no data and starts anew, or it has all of the first data.
 """
 import errno
 import itertools

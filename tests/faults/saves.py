@@ -40,7 +40,8 @@ FAULTS = {
     # Once a file is synced its close has nothing left to report.
     CLOSE: ("close:1:1:EIO", None),
 }
-# The same in a folder that is read-only at first, and whether a file beside can't be removed.
+# Folders that are read-only at first: the faults, and whether the `.new` file can't be removed
+# either.
 READ_ONLY = {
     "a saving in a folder that can only be read": ("remove:1:0:EROFS open:1:1:EROFS", False),
     "a saving in a folder that has to stay": ("remove:1:0:EROFS open:1:1:EROFS", True),

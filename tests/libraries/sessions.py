@@ -24,6 +24,7 @@ NAMES = {NOTIFY: "serial notify", QUERY: "serial query", RESET_QUERY: "reset que
          RESPONSE: "cache response", IPV4: "IPv4 prefix", IPV6: "IPv6 prefix", END: "end of data",
          RESET: "cache reset", KEY: "router key", REPORT: "error report", ASPA: "ASPA"}
 WIDTHS = {IPV4: 32, IPV6: 128}
+CODES = {0: "Corrupt Data", 5: "Unsupported PDU Type"}
 OK, SHORT, UNIT_TYPE, UNIT_VERSION, TOO_LONG, UNIT_LENGTH, EMPTY_PROVIDERS, PREFIX = range(8)
 
 # The fields of an answer that are numbers, in order.
@@ -256,7 +257,8 @@ def line(data, answered):
     if kind == REPORT:
         start, length = shown.get("text_start", 0), shown.get("text_length", 0)
         message = unit[start:start + length].decode()
-        return text + f": code {shown['code']}, {shown.get('part_length', 0)} bytes, '{message}'"
+        quoted = f', "{message}"' if message else ""
+        return text + f": {CODES[shown['code']]}{quoted}, about {shown.get('part_length', 0)} bytes"
     return text
 
 

@@ -35,7 +35,7 @@ LISTENS = "socat"
 # A status as docs/PROGRAMS.md, the code in Rattle, that in Go, and man pages have it.
 ON_PAGE = re.compile(r"^\| (?P<status>\d+) \| `(?P<name>[A-Z]+)` \|", re.MULTILINE)
 IN_RATTLE = re.compile(r"^pub const (?P<name>[A-Z]+): u8 = (?P<status>\d+);$", re.MULTILINE)
-IN_GO = re.compile(r"^\t(?P<name>[A-Z][a-z]+) += (?P<status>\d+)\b", re.MULTILINE)
+IN_GO = re.compile(r"^\t(?P<name>[A-Z][a-z]+) +Status = (?P<status>\d+)\b", re.MULTILINE)
 IN_MANUAL = re.compile(r"^\.It (\d+)$", re.MULTILINE)
 # The messages of mandoc for each correct page.
 ALLOWED = re.compile("manual not found|operating system explicitly specified|typo in section")

@@ -67,7 +67,7 @@ ANSWERS = [
                   for line in ROUTES.splitlines()]),
 ]
 
-# A session: units that ask for memory and others, each as it is written.
+# A session of units that allocate and units that don't, each in its written form.
 SESSION = [
     samples.unit("cache response"),
     KEY.bytes,
@@ -274,7 +274,7 @@ def piped_problem(shim, folder, program, arguments, given, pieces, usage):
 
 
 def diff_problem(shim, folder, arguments, pieces):
-    """Returns what is wrong with the runs of `rtr_diff` from the input to the end of data alone, or
+    """Returns what is wrong with the runs of `rtr_diff` from the input to a bare end of data, or
     None.
 
     Each run writes all of its pieces, or none and how it is called; or some of them and that memory

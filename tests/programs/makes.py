@@ -331,7 +331,7 @@ RUNS = [
     (JSON, "", b'{"ROAs":[{"Prefix":"192.0.2.0/23","ASN":65551,"MaxLength":26}]}', V4 + END, "", 0),
     (JSON, "", b'{"router_keys":[{"AsN":65551,"SKI":"' + KEY_ID.encode() + b'","public-key":1,"router_public_key":"FRYXGA"}]}', KEY + END, "", 0),
     (JSON, "", b'{"Aspas":[{"customerAsid":65551,"Providers":[65549,65550]}]}', ASPA + END, "", 0),
-    # Other names of a max length: none is passed over.
+    # Each name of a max length is read.
     (JSON, "", roas(b'{"prefix":"192.0.2.0/23","asn":65551,"maxlen":26}'), V4 + END, "", 0),
     (JSON, "", roas(b'{"prefix":"192.0.2.0/23","asn":65551,"maxPrefixLength":26}'), V4 + END, "", 0),
     (JSON, "", roas(b'{"prefix":"192.0.2.0/23","asn":65551,"max_prefix_length":26}'), V4 + END, "", 0),

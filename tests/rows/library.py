@@ -274,7 +274,7 @@ class Library:
 
     def delta_into(self, settings, left, right, expected):
         found = self.data_call(self.calls.rtr_delta_nonnull, settings, left, right)
-        # The data's other version is told without a side in rows.
+        # Rows name no side for another version of the data.
         if expected[0].startswith("UnitVersion"):
             found[0].side = 0
         return self.data_words(*found, {1: "Old", 2: "New"}, expected)

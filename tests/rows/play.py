@@ -1,6 +1,6 @@
 #!/usr/bin/env python3
-"""Gives `test_rows` the rows of this folder, which are by kind of unit, and names those that fail
-by their file and line, with what they are for.
+"""Runs `test_rows` over the rows of this folder (a file for each kind of unit), and prints file,
+line and purpose of each that fails.
 
 usage: play.py [FILE..]    with FILE, as aspa, the rows of these files alone
        play.py --check     says whether crates/test_rows/stdin is what the files have together

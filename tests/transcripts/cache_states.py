@@ -8,8 +8,8 @@ from scene import SECOND
 from units import OTHER_SESSION, SESSION, cache_reset, notify, report, reset_query, serial_query
 
 FIRST_LIMIT, IDLE_LIMIT, PAUSE = 30 * SECOND, 90_000 * SECOND, 60 * SECOND
-EARLIER, SERIAL = 4, 5  # the serial numbers of the data, whose changes can be told, at first
-UNKNOWN = 2  # one whose changes can't be told
+EARLIER, SERIAL = 4, 5  # the serial numbers of the data from which there are changes, at first
+UNKNOWN = 2  # one from which there are no changes
 NO_DATA = "the cache has no data yet"
 FULL = "too many connections"
 
@@ -24,7 +24,7 @@ class State:
     refuses: bool = False
     over: bool = False
     session: int = SESSION  # of the newest data
-    first: int = EARLIER  # the first serial number whose changes can be told
+    first: int = EARLIER  # the first serial number from which there are changes
 
     @property
     def asked(self):

@@ -21,7 +21,7 @@ class Case:
     serial: int = LATER
     code: int = None  # of a report, or of that for a refused unit
     text: str = ""  # of the report for a refused unit
-    about: int = 8  # how many of its bytes that report is about
+    about: int = 8  # how many of its bytes the report copies
     least: int = 0  # the first version that has it
 
     def notes(self, state, version):

@@ -1,8 +1,8 @@
 """What each unit comes to in each state: one table, in the order in which its rows are looked at.
 
 A row names the state (its phase, whether a version is agreed on, and the query), the unit (its
-kind, its version beside that of the connection, and what else tells of it: its code, its session,
-its serial number), what it comes to, and the section of RFC 8210. None stands for any.
+kind, its version beside that of the connection, and its other fields: its code, its session, its
+serial number), what it comes to, and the section of RFC 8210. None stands for any.
 """
 NOTIFY, QUERY, RESPONSE, PREFIX, KEY, ASPA, END, RESET, REPORT, REFUSED = (
     "serial notify", "query", "cache response", "prefix", "router key", "ASPA", "end of data",

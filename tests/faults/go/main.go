@@ -62,7 +62,7 @@ func writeStates(path string) {
 			var memory runtime.MemStats
 			if received == syscall.SIGUSR2 {
 				debug.FreeOSMemory()
-				debug.FreeOSMemory() // what a finalizer or a pool let go of at the first
+				debug.FreeOSMemory() // memory that finalizers and pools released in the first collection
 			}
 			runtime.ReadMemStats(&memory)
 			fmt.Fprintln(file, runtime.NumGoroutine(), memory.HeapAlloc)
