@@ -15,6 +15,8 @@ usage: links.py
   .ci/links.py, exists: at the top, in a folder above that file, or in one of bindings/.
 - Each page is reached from README.md by links, and README.md from each page in docs/.
 - README.md has at most 100 lines, and each page in docs/ begins with the question that it answers.
+- The table of docs/ARCHITECTURE.md with one role in each row names each source file of the
+  libraries in its language's column, and no other file.
 
 Exits with status 1 if something is wrong.
 """
@@ -33,6 +35,10 @@ IN_DOCS = re.compile(r"docs/[A-Za-z/]+\.md")
 SCRIPT = re.compile(r"(?<![\w./$}-])(?:/|\.\./|\$\w+/|\$?\{\w+\}/)*"
                     r"((?:\.ci|bench|fuzz|interop|release|tests)/[\w./-]*\w)(?![\w*{$/-]|\.?[{*<])")
 README_LINES, HEAD_LINES = 100, 8
+# The folders of the columns of the table, and the source files there that it has to name.
+ROLES = (("C", "c", "rtr*.[ch]"), ("Go", "go", "*.go"), ("Rust", "rust/src", "*.rs"),
+         ("Python", "python/src/rtr_wire", "*.py"), ("JavaScript", "js", "*.js"))
+TEST_FILE = re.compile(r"_test\.go|_tests\.c|_testing\.h")
 BUILT = {"out", "target"}
 BINARY = {".a", ".so", ".wasm", ".png", ".pyc"}
 
@@ -137,6 +143,23 @@ def wrong_mentions(found):
                 yield path, f"no {name}"
 
 
+def wrong_roles():
+    """Returns the source files that the table of roles lacks, and the files in it that don't
+    exist."""
+    page = TOP / "docs/ARCHITECTURE.md"
+    table = page.read_text().split("| Role | C |")[1].split("\n\n")[0]
+    rows = [line.split("|")[2:-1] for line in table.splitlines()[2:]]
+    for column, (language, folder, pattern) in enumerate(ROLES):
+        there = {path.name for path in (TOP / "bindings" / folder).glob(pattern)
+                 if not TEST_FILE.search(path.name)}
+        named = {name for row in rows for name in re.findall(r"`([^`]+)`", row[column])}
+        for name in sorted(there - named):
+            yield page, f"no row for {language} names {name}"
+        for name in sorted(named):
+            if not (TOP / "bindings" / folder / name).is_file():
+                yield page, f"no file {name} in {language}"
+
+
 def reached(found):
     """Returns the pages that can't be reached from README.md, or from which README.md can't."""
     next_pages = {page: {file for _, file, _ in links(page)} for page in found}
@@ -160,7 +183,7 @@ def main():
     found = pages()
     wrong = [(page, problem) for page in found for check in (wrong_links, wrong_paths)
              for problem in check(page)]
-    wrong += [*reached(found), *wrong_heads(found), *wrong_mentions(found)]
+    wrong += [*reached(found), *wrong_heads(found), *wrong_mentions(found), *wrong_roles()]
     for page, problem in wrong:
         print(f"{name_of(page)}: {problem}")
     print(f"{len(found)} pages, {sum(len(list(links(page))) for page in found)} links, "

@@ -46,7 +46,7 @@ from speed_page import lines_of_page, table_at, write
 MARKER = "<!-- measured: clients -->"
 RUN = re.compile(r"Measured with .*\.$")
 
-# How many prefixes the tables have that are timed and that are counted.
+# The numbers of prefixes of the timed and of the counted table.
 TIMED, COUNTED = 500_000, 20_000
 
 # The clients whose runtimes valgrind can't run, or not in useful time.

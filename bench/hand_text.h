@@ -1,4 +1,4 @@
-/* What programs.c writes with: buffers of 64 KiB, and the texts of a unit's fields. */
+/* Output functions of programs.c: buffers of 64 KiB, and the texts of a unit's fields. */
 #ifndef FISHREEF_HAND_TEXT_H
 #define FISHREEF_HAND_TEXT_H
 

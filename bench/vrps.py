@@ -30,7 +30,7 @@ from speed_page import lines_of_page, table_at, write
 MARKER = "<!-- measured: vrps -->"
 ROW = re.compile(r"\| (.*?) \| ([\d.]+) \| [\d.]+ \|$")
 
-# How long the lists are that are counted and timed.
+# The lengths of the lists that are counted and timed.
 COUNTED, TIMED = 20_000, 1_000_000
 
 # How many times the kit's instructions rtr_make may take, and by how much a number of the page may

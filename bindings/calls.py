@@ -87,7 +87,7 @@ ENUMS = {
     "rtr_cut": [("connection_calls.rt", "NONE", "NONE"), ("connection_calls.rt", "cut_to")],
     "rtr_time_rule": [("times.rt", "rtr_times_rule")]}
 
-# What members begin with behind RTR_ in C.
+# The prefixes of members after RTR_ in C.
 PREFIXES = {"rtr_code": "CODE_", "rtr_order": "SERIAL_", "rtr_named": "NAMED_",
             "rtr_rule": "RULE_", "rtr_phase": "PHASE_", "rtr_cause": "CAUSE_",
             "rtr_link_status": "LINK_", "rtr_todo_kind": "TODO_",
@@ -123,7 +123,7 @@ BUFFERS = {"rtr_link_": ({"buffers": "rtr_link_buffers"}, 1),
            "rtr_stores_": ({"buffers": "rtr_stores_buffers", "work": "rtr_work"}, None),
            "rtr_history_since": ({"work": "rtr_work"}, None)}
 
-# What the comment of a field begins with that has what the call returns, too.
+# The start of the comment of a field that repeats the call's return value.
 RESULT = "The result of the call"
 
 
@@ -152,8 +152,8 @@ class Call:
         """Returns the last parameters that the call only writes to: plain pointers after the
         first parameter, which is the state that a call works on."""
         count = 0
-        for one in reversed(self.parameters[1:]):
-            if one.pointer != "mut" or one.slice:
+        for parameter in reversed(self.parameters[1:]):
+            if parameter.pointer != "mut" or parameter.slice:
                 break
             count += 1
         return self.parameters[len(self.parameters) - count:]
@@ -161,10 +161,10 @@ class Call:
     def returns(self):
         """Returns the type of the result, or nothing if an output has the same in its field
         `status`."""
-        kinds = {one.kind for one in self.outputs()}
+        kinds = {output.kind for output in self.outputs()}
         return "" if any(field.name == "status" and field.about.startswith(RESULT)
-                         for one in structs() if one.name in kinds for field in one.fields) \
-            else self.result
+                         for struct in structs() if struct.name in kinds
+                         for field in struct.fields) else self.result
 
 
 @dataclasses.dataclass
@@ -228,14 +228,14 @@ def sources():
 
 def documented(lines):
     """Yields the lines of a file, each with the doc comment right before it on one line."""
-    said = []
+    comment = []
     for line in lines:
         words = line.strip()
         if words.startswith("///"):
-            said.append(words[3:].strip())
+            comment.append(words[3:].strip())
         elif not words.startswith("#["):
-            yield words, " ".join(said)
-            said = []
+            yield words, " ".join(comment)
+            comment = []
 
 
 # ---- calls
@@ -297,17 +297,17 @@ def lay_out(name, declared, laid):
     if name in laid:
         return
     about, body, proved = declared[name]
-    fields, place = [], 0
-    for line, said in documented(body.splitlines()):
-        field, many_of, many, one = FIELD.match(line).groups()
-        kind = kind_of(many_of or one)
+    fields, offset = [], 0
+    for line, comment in documented(body.splitlines()):
+        field, many_of, many, plain_kind = FIELD.match(line).groups()
+        kind = kind_of(many_of or plain_kind)
         if kind not in TYPES:
             lay_out(kind, declared, laid)
-        place = -(-place // aligned(kind, laid)) * aligned(kind, laid)
-        fields.append(Field(field, kind, int(many or 0), place, said))
-        place += size_of(kind, laid) * int(many or 1)
+        offset = -(-offset // aligned(kind, laid)) * aligned(kind, laid)
+        fields.append(Field(field, kind, int(many or 0), offset, comment))
+        offset += size_of(kind, laid) * int(many or 1)
     widest = max(aligned(field.kind, laid) for field in fields)
-    laid[name] = Struct(name, about, fields, -(-place // widest) * widest)
+    laid[name] = Struct(name, about, fields, -(-offset // widest) * widest)
     if proved not in (0, laid[name].size):
         fail(f"{name} has {proved} bytes, but its fields take {laid[name].size}")
 
@@ -360,8 +360,8 @@ def arms_of(path, function):
 def members(enum):
     """Returns the members of an enum by their names in C, each with its number."""
     found = {}
-    for place, *names in ENUMS[enum]:
-        path = f"rtr_c/src/{place}"
+    for source, *names in ENUMS[enum]:
+        path = f"rtr_c/src/{source}"
         for name, number in arms_of(path, *names) if len(names) == 1 \
                 else constants_of(path, *names):
             name = capitals(name)
@@ -372,14 +372,14 @@ def members(enum):
 @functools.cache
 def texts(enum):
     """Returns the texts of an enum's members by their numbers, and the text for other numbers."""
-    said = {}
-    for place in TEXTS[enum]:
+    named = {}
+    for source in TEXTS[enum]:
         for name, text in re.findall(r"^ +(?:\w+::)?(\w+)(?:\(_\))? => (?:Some\()?\"(.*?)\"",
-                                     body_of(*place.split(":")), re.MULTILINE):
+                                     body_of(*source.split(":")), re.MULTILINE):
             name = capitals(name) if not name.isdecimal() else text.upper()
-            said[CALLED.get((enum, name), name)] = text
+            named[CALLED.get((enum, name), name)] = text
     front = len(f"RTR_{PREFIXES.get(enum, '')}")
-    numbered = {number: said[capitals(name[front:]).replace("_", " ") if enum == "rtr_kind"
+    numbered = {number: named[capitals(name[front:]).replace("_", " ") if enum == "rtr_kind"
                              else name[front:]]
                 for name, number in members(enum).items() if name[front:] != "NONE"}
     return ([numbered.get(number) for number in range(max(numbered) + 1)],
@@ -397,8 +397,8 @@ def number(name):
 
 def version():
     """Returns the version of the archive: its text and its number."""
-    said = int(re.search(r"const WIRE_VERSION: u32 = (\d+);", read("rtr_c/src/numbers.rt"))[1])
-    return f"{said // 10000}.{said // 100 % 100}.{said % 100}", said
+    packed = int(re.search(r"const WIRE_VERSION: u32 = (\d+);", read("rtr_c/src/numbers.rt"))[1])
+    return f"{packed // 10000}.{packed // 100 % 100}.{packed % 100}", packed
 
 
 # ---- rtr.h
@@ -424,29 +424,29 @@ def page():
     return PAGE.read_text()
 
 
-# Where rtr.h declares a struct or a call; its first line may be all that is there of it yet.
+# The declaration of a struct or a call in rtr.h; a new one is only its first line.
 DECLARED = {"struct": r"^struct (\w+)(?: \{$|;$)",
             "call": r"^(?:(?:static inline )?(?:const )?\w+ \*?)?(rtr_\w+)(?:\(|;$)"}
 
 
 def in_order(found, what, named):
     """Returns the found declarations as a list, in their order in rtr.h."""
-    places = {name: place for place, name in enumerate(re.findall(DECLARED[what], page(),
-                                                                  re.MULTILINE))}
+    indices = {name: index for index, name in enumerate(re.findall(DECLARED[what], page(),
+                                                                   re.MULTILINE))}
     for name in map(named, found):
-        if name not in places:
+        if name not in indices:
             declaration = f"struct {name};" if what == "struct" else f"{name};"
             fail(f"rtr.h lacks the {what} {name}: add its comment, and below it `{declaration}`")
-    return sorted(found.values(), key=lambda one: places[named(one.name)])
+    return sorted(found.values(), key=lambda declaration: indices[named(declaration.name)])
 
 
 def buffers_of(call):
     """Returns the structs of buffers that a call of rtr.h takes, by the names of their parameters,
     each with the names of the fields that are passed; and the position of these parameters."""
-    for front, (groups, place) in BUFFERS.items():
+    for front, (groups, position) in BUFFERS.items():
         if not call.name.startswith(front):
             continue
-        names = [one.name for one in call.parameters]
+        names = [parameter.name for parameter in call.parameters]
         taken = {}
         for group, struct in groups.items():
             body = re.search(rf"^struct {struct} \{{(.*?)^\}};", page(),
@@ -457,17 +457,17 @@ def buffers_of(call):
                 taken[group] = (struct, found)
         if taken:
             first = min(names.index(found[0]) for _, found in taken.values())
-            return taken, first if place is None else place
+            return taken, first if position is None else position
     return {}, 0
 
 
 def page_parameters(call):
     """Returns the parameters of a call of rtr.h: like those of the archive's function, but structs
     of buffers in the place of slices."""
-    groups, place = buffers_of(call)
+    groups, position = buffers_of(call)
     owned = {name for _, found in groups.values() for name in found}
-    taken = [one for one in call.parameters if one.name not in owned]
-    before = sum(one.name not in owned for one in call.parameters[:place])
+    taken = [parameter for parameter in call.parameters if parameter.name not in owned]
+    before = sum(parameter.name not in owned for parameter in call.parameters[:position])
     taken[before:before] = [Parameter(group, struct, "const") for group, (struct, _) in
                             groups.items()]
     return taken
@@ -477,7 +477,7 @@ def page_parameters(call):
 def constants():
     """Returns the numbers that rtr.h defines: name, number and comment."""
     found = re.findall(r"^#define RTR_(\w+) (\d+)[ \t]*(/\*.*\*/)?$", page(), re.MULTILINE)
-    found = [one for one in found if one[0] != "WIRE_VERSION_NUMBER"]
+    found = [constant for constant in found if constant[0] != "WIRE_VERSION_NUMBER"]
     missing = LAWS.keys() - {name for name, _, _ in found}
     if missing:
         fail(f"rtr.h lacks RTR_{min(missing)}")
@@ -498,14 +498,14 @@ def enums():
     found = []
     pattern = r"(/\*(?:(?!\*/).)*\*/\n)?^enum (\w+) \{\n(.*?)\n\};"
     for about, name, body in re.findall(pattern, page(), re.DOTALL | re.MULTILINE):
-        said = {member: plain(comment) for member, comment in re.findall(
+        comments = {member: plain(comment) for member, comment in re.findall(
             r"^    (RTR_\w+)(?: = \d+)?,?[ \t]*(/\*.*?\*/)?", body, re.MULTILINE | re.DOTALL)}
-        unknown = said.keys() - members(name).keys()
+        unknown = comments.keys() - members(name).keys()
         if unknown:
             fail(f"rtr_c has no number for {min(unknown)}")
-        listed = [(member, value, said.get(member, ""))
+        listed = [(member, value, comments.get(member, ""))
                   for member, value in members(name).items()]
-        found.append(Enum(name, plain(about), sorted(listed, key=lambda one: one[1])))
+        found.append(Enum(name, plain(about), sorted(listed, key=lambda member: member[1])))
     if len(found) != len(ENUMS):
         fail("rtr.h lacks an enum of the crate")
     return found

@@ -21,8 +21,8 @@ The first form makes in FOLDER, which must not have any of them yet,
 
 The second puts headers, the shared library with the client and the cache, archives of all three and
 the sources of both, files for pkg-config and CMake, programs and man pages under FOLDER, for this
-machine or the one named (x86_64, aarch64). What is compiled and linked is so by $CC, or cc, with
-$CPPFLAGS, $CFLAGS and $LDFLAGS. The third links the shared library of the calls of rtr.h alone.
+machine or the one named (x86_64, aarch64). $CC, or cc, compiles and links, with $CPPFLAGS, $CFLAGS
+and $LDFLAGS. The third links the shared library of the calls of rtr.h alone.
 
 Each has a README, the licence, the pages that its comments name, and the entries of CHANGELOG.md
 about what it has.
@@ -116,8 +116,8 @@ def version():
 def check_sums():
     """Exits if a file of prebuilt doesn't match its checksum."""
     for line in (PREBUILT / "SHA256SUMS").read_text().splitlines():
-        wanted, file = line.split()
-        if hashlib.sha256((PREBUILT / file).read_bytes()).hexdigest() != wanted:
+        checksum, file = line.split()
+        if hashlib.sha256((PREBUILT / file).read_bytes()).hexdigest() != checksum:
             sys.exit(f"prebuilt/{file} isn't the one that prebuilt/SHA256SUMS names")
 
 
@@ -206,7 +206,7 @@ def calls(to):
 
 
 def change(file, *changes):
-    """Replaces texts of a file, each of which it has."""
+    """Replaces texts of a file; fails if one is missing."""
     text = file.read_text()
     for old, new in changes:
         assert old in text, f"{file} lacks {old}"
@@ -268,14 +268,14 @@ def go_programs(module, to):
     with its checksums in go.sum."""
     library = to.parent
     sums = [line for line in (TOP / "programs" / "go.sum").read_text().splitlines(True)]
-    said = f"{module} v{version()}"
+    module_version = f"{module} v{version()}"
     for name, files in (("", packed(library, f"{module}@v{version()}/")),
                         ("/go.mod", {"go.mod": (library / "go.mod").read_bytes()})):
-        sums.append(f"{said}{name} {module_sum(files)}\n")
+        sums.append(f"{module_version}{name} {module_sum(files)}\n")
     go_files(TOP / "programs", module, to)
     text = (to / "go.mod").read_text()
     text = re.sub(rf"\n+replace {GO_LIBRARY} .*\n", "\n", text)
-    write(to / "go.mod", text.replace(f"\t{GO_LIBRARY} v0.0.0\n", f"\t{said}\n"))
+    write(to / "go.mod", text.replace(f"\t{GO_LIBRARY} v0.0.0\n", f"\t{module_version}\n"))
     write(to / "go.sum", "".join(sorted(sums)))
     copy(TOP / "LICENSE", to / "LICENSE")
 
@@ -388,9 +388,9 @@ def js_package(archives, repository, to):
     shutil.copytree(TOP / "inspector", to / "inspector")
     copy(TOP / "bindings" / "c" / "rtr.h", to / "rtr.h")
     copy(TOP / "bindings" / "js" / "tests" / "installed.js", to / "tests" / "installed.js")
-    said = json.loads((to / "package.json").read_text())
-    said["scripts"]["test"] = "node tests/installed.js"
-    write(to / "package.json", json.dumps(said, indent=4) + "\n")
+    manifest = json.loads((to / "package.json").read_text())
+    manifest["scripts"]["test"] = "node tests/installed.js"
+    write(to / "package.json", json.dumps(manifest, indent=4) + "\n")
     change(to / "package.json", (published("RTR_REPOSITORY"), repository))
     documents("js", to)
     change(to / "inspector" / "library.js", *IN_PAGE)
@@ -427,8 +427,8 @@ def c_folder(archives, to):
 def c_tar(archives, to):
     """Makes the tar file for C, without owners and times."""
     folder = f"{NAME}-{version()}"
-    made = io.BytesIO()
-    with tempfile.TemporaryDirectory() as top, tarfile.open(fileobj=made, mode="w") as tar:
+    tar_bytes = io.BytesIO()
+    with tempfile.TemporaryDirectory() as top, tarfile.open(fileobj=tar_bytes, mode="w") as tar:
         c_folder(archives, pathlib.Path(top, folder))
         for file in sorted(path for path in pathlib.Path(top).rglob("*") if path.is_file()):
             entry = tar.gettarinfo(file, file.relative_to(top))
@@ -436,7 +436,7 @@ def c_tar(archives, to):
             entry.uname = entry.gname = ""
             with file.open("rb") as data:
                 tar.addfile(entry, data)
-    (to / f"{folder}.tar.gz").write_bytes(gzip.compress(made.getvalue(), mtime=0))
+    (to / f"{folder}.tar.gz").write_bytes(gzip.compress(tar_bytes.getvalue(), mtime=0))
 
 
 def soname():
@@ -459,16 +459,16 @@ def archive_of(name, to):
     """Compiles the client or the cache, and makes an archive of it, without owners and times."""
     sources = TOP / "bindings" / "c"
     with tempfile.TemporaryDirectory() as folder:
-        made = pathlib.Path(folder, f"rtr_{name}.o")
+        object_file = pathlib.Path(folder, f"rtr_{name}.o")
         flags = " ".join(os.environ.get(name, "") for name in ("CPPFLAGS", "CFLAGS")).split()
         command = [os.environ.get("CC", "cc"), "-std=c11", "-O2", *flags, "-fPIC", "-I", sources,
                    "-c",
-                   sources / f"rtr_{name}.c", "-o", made]
+                   sources / f"rtr_{name}.c", "-o", object_file]
         if subprocess.run(command).returncode != 0:
             sys.exit(f"the {name} wasn't compiled: for another machine set CC to its compiler")
         archive = to / f"librtr_{name}.a"
         archive.unlink(missing_ok=True)
-        subprocess.run([os.environ.get("AR", "ar"), "rcsD", archive, made], check=True)
+        subprocess.run([os.environ.get("AR", "ar"), "rcsD", archive, object_file], check=True)
 
 
 def install(archives, machine, prefix):
@@ -509,9 +509,9 @@ def main():
     if args.prefix:
         install(args.archives, args.machine, args.prefix.absolute())
         return
-    for made in (args.folder / name for name in ("go", "rust", "python", "js")):
-        if made.exists():
-            sys.exit(f"{made} is there already")
+    for package in (args.folder / name for name in ("go", "rust", "python", "js")):
+        if package.exists():
+            sys.exit(f"{package} is there already")
     args.folder.mkdir(parents=True, exist_ok=True)
     module, repository = (given or os.environ.get(name) or published(name) for given, name in
                           ((args.module, "RTR_MODULE"), (args.repository, "RTR_REPOSITORY")))
