@@ -13,6 +13,7 @@ ghost use Rattle.data_slices.specs.PrivateChanges.{IsNext, NoUnit};
 
 use rtr_base::action::Action;
 use rtr_units::end::EndOfData;
+use rtr_units::header::HEADER_SIZE;
 use rtr_units::prefixes::{Ipv4Prefix, Ipv6Prefix};
 use rtr_units::unit::Unit;
 use std::cmp::Ordering;
@@ -107,7 +108,7 @@ fn next_of_type<'a>(input: &'a [u8], kind: u8, size: usize) -> Option<(PayloadVi
     ensures unit { IfSome result (λ p. IsNext p.0 p.1.now input.now) }
     ensures shorter { IfSome result (λ p. length p.1.now < length input.now) }
 {
-    if input.len() < size || size < 8 {
+    if input.len() < size || size < HEADER_SIZE {
         return None;
     }
     let (unit, left) = input.split_at(size);
@@ -130,7 +131,7 @@ fn next_of_type<'a>(input: &'a [u8], kind: u8, size: usize) -> Option<(PayloadVi
 pub(crate) fn begins_with_type(input: &[u8], kind: u8) -> bool
     ensures { IsTrue result ↔ ((8 ≤ length input.now) × (type_field input.now ≡ kind)) }
 {
-    input.len() >= 8 && input[1] == kind
+    input.len() >= HEADER_SIZE && input[1] == kind
 }
 
 /// The same view, as an item.

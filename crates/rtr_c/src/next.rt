@@ -15,6 +15,7 @@ ghost use Rattle.rtr_c.specs.ShownUnits.{ShowsFirst, ShowsReport, none, bare_sho
 use crate::answer::{ACCEPTED, fault_detail, fault_status};
 use crate::unit::RtrUnit;
 use rtr_units::fixed_unit::FixedUnit;
+use rtr_units::header::HEADER_SIZE;
 use rtr_units::numbers::{u32_at, u128_bytes};
 use rtr_wire::payload::Action;
 use rtr_wire::pdu::{
@@ -34,7 +35,7 @@ pub extern "C" fn rtr_next_nonnull(input: &[u8], unit: &mut RtrUnit) -> u8
     ensures { (r : Result (List ℕ × AnyFields) ViewFault) ×
         ShowsFirst r input.now unit.new result }
 {
-    let unit_type = if input.len() < 8 { 255 } else { input[1] };
+    let unit_type = if input.len() < HEADER_SIZE { 255 } else { input[1] };
     // All arms make the same call, which is compiled for each type by itself: see `show_first`.
     match unit_type {
         SerialNotify::PDU => show_first::<{ SerialNotify::PDU }>(input, unit),
@@ -90,8 +91,8 @@ fn refuse(refusal: &SessionFault, input: &[u8], unit: &mut RtrUnit) -> u8
 pub(crate) fn wanted(input: &[u8]) -> usize
     ensures { result ≡ wanted input.now }
 {
-    if input.len() < 8 {
-        return 8;
+    if input.len() < HEADER_SIZE {
+        return HEADER_SIZE;
     }
     u32_at(input, 4) as usize
 }

@@ -11,7 +11,7 @@ ghost use Rattle.rtr_wire.specs.Sequences.{everything, for_version};
 use crate::run::Passed;
 use crate::writing::{Everything, ForVersion, Writing};
 use rtr_payload::pdu::{Aspa, PayloadUnit, RouterKey};
-use rtr_units::header::LAST_VERSION;
+use rtr_units::header::{HEADER_SIZE, LAST_VERSION};
 use rtr_units::prefixes::{Ipv4Prefix, Ipv6Prefix};
 use rtr_units::unit::Unit;
 use unit_views::fault::ViewFault;
@@ -160,7 +160,7 @@ struct Step {
 fn take_step<S: Writing>(writing: S, rest: &[u8], output: &mut [u8]) -> Result<Step, IntoFault>
     ensures { StepsInto (S.what writing) result rest.now output.old output.new }
 {
-    let unit_type = if rest.len() < 8 { 0 } else { rest[1] };
+    let unit_type = if rest.len() < HEADER_SIZE { 0 } else { rest[1] };
     match unit_type {
         Ipv4Prefix::PDU => view_step::<{ Ipv4Prefix::PDU }, S>(writing, rest, output),
         Ipv6Prefix::PDU => view_step::<{ Ipv6Prefix::PDU }, S>(writing, rest, output),

@@ -8,6 +8,7 @@ ghost use Rattle.rtr_wire.specs.Sequences.{everything};
 ghost use Rattle.rtr_wire.specs.SliceRun.{NormalisesSlice};
 
 use rtr_payload::pdu::{Aspa, RouterKey};
+use rtr_units::header::HEADER_SIZE;
 use rtr_units::prefixes::{Ipv4Prefix, Ipv6Prefix};
 use rtr_units::source::Sink;
 use rtr_units::unit::Unit;
@@ -60,7 +61,7 @@ fn step<'a, W: Sink>(rest: &'a [u8], writer: &mut W) -> Result<(bool, &'a [u8]),
         count_after (W.state writer.old).failed (not (is_view_writer_fault result)) }
     ensures error { IfErr result (HoldsViewWriteError (W.fails writer.new) (W.stalls writer.new)) }
 {
-    let unit_type = if rest.len() < 8 { 0 } else { rest[1] };
+    let unit_type = if rest.len() < HEADER_SIZE { 0 } else { rest[1] };
     match unit_type {
         Ipv4Prefix::PDU => view_step::<{ Ipv4Prefix::PDU }, W>(rest, writer),
         Ipv6Prefix::PDU => view_step::<{ Ipv6Prefix::PDU }, W>(rest, writer),

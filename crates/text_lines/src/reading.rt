@@ -13,6 +13,7 @@ ghost use Rattle.text_lines.specs.ListedUnits.{key_listed};
 use crate::listed::{Listed, ListedAspa, ListedKey, ListedPayload, ListedReport};
 use rtr_payload::pdu::{Aspa, RouterKey};
 use rtr_units::end::{EndOfData, EndOfDataV0, EndOfDataV1};
+use rtr_units::header::HEADER_SIZE;
 use rtr_units::numbers::{u16_at, u32_at};
 use rtr_units::prefixes::{Ipv4Prefix, Ipv6Prefix};
 use rtr_units::queries::{CacheReset, CacheResponse, ResetQuery, SerialNotify, SerialQuery};
@@ -42,7 +43,7 @@ pub fn listed_unit(unit: &[u8]) -> Listed<'_>
         _ => Listed::Error(ListedReport {
             version: unit[0],
             code: u16_at(unit, 2),
-            body: &unit[8..],
+            body: &unit[HEADER_SIZE..],
         }),
     }
 }

@@ -9,7 +9,7 @@ ghost use Rattle.unit_any.specs.PrivateHeaders.{SaysSize};
 use crate::report::{MIN_SIZE, Report};
 use rtr_payload::pdu::{Aspa, RouterKey};
 use rtr_units::end::{EndOfData, EndOfDataV0, EndOfDataV1};
-use rtr_units::header::{LAST_VERSION, MAX_SIZE};
+use rtr_units::header::{HEADER_SIZE, LAST_VERSION, MAX_SIZE};
 use rtr_units::numbers::u32_at;
 use rtr_units::prefixes::{Ipv4Prefix, Ipv6Prefix};
 use rtr_units::queries::{CacheReset, CacheResponse, ResetQuery, SerialNotify, SerialQuery};
@@ -30,7 +30,7 @@ use unit_views::fault::ViewFault;
 pub fn unit_length(bytes: &[u8]) -> Result<Option<usize>, ViewFault>
     ensures { SaysLength bytes.now result }
 {
-    if bytes.len() < 8 {
+    if bytes.len() < HEADER_SIZE {
         return Ok(None);
     }
     match header_size(bytes[0], bytes[1], bytes[2], u32_at(bytes, 4)) {

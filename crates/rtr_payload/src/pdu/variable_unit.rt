@@ -25,7 +25,7 @@ use super::frame::{fill_unit, read_rest};
 use bytes::Bytes;
 use rtr_base::action::Action;
 use rtr_units::fault::Fault;
-use rtr_units::header::Header;
+use rtr_units::header::{HEADER_SIZE, Header};
 use rtr_units::piece::put;
 use rtr_units::source::{Sink, Source};
 use std::alloc::{AllocError, Global};
@@ -374,7 +374,7 @@ pub(crate) fn flagged_parts(version: u8, pdu: u8, action: Action, rest: &[u8]) -
         version ∷ pdu ∷ flags_of action ∷ 0 ∷ be (8 + length rest.now) 4 }
     ensures rest { result.1.now ≡ rest.now }
 {
-    let size = 8 + rest.len() as u32;
+    let size = HEADER_SIZE as u32 + rest.len() as u32;
     (
         flagged_header(version, pdu, action.into_flags(), size),
         rest,
