@@ -26,7 +26,8 @@ use Rattle.data_slices.specs.AtOffsets.{offsets_of, why}
 use Rattle.data_slices.proofs.Refusal.{some_bytes}
 use Rattle.data_loading.specs.Loading.{HasOpenAnswer, IsWrong, Taken, current_version}
 use Rattle.data_loading.specs.Loading.{version_taken}
-use Rattle.data_loading.specs.PrivateLoading.{IsBased, IsBegun, IsCurrent, IsOfWanted, KeepsData}
+use Rattle.data_loading.specs.PrivateLoading.{IsBased, IsBegun, IsCurrent, KeepsData}
+use Rattle.data_slices.specs.AtOffsets.{IsOf}
 use Rattle.data_loading.specs.PrivateLoading.{RefusedThere, StandsAt, made_in, opened_answer}
 use Rattle.data_loading.specs.PrivateLoading.{payloads_begun}
 use Rattle.data_loading.specs.PrivateLoading.{so_much}
@@ -258,7 +259,7 @@ module _ (h : Held) (a : Answer) (at size : ℕ) (input index output : List ℕ)
     (r : Ready h a at input index output) (g : Fields)
     (has : HasAnyFields (take size (drop at input)) (payload g))
     (rule : KeepsPrefixRule (payload g)) (unit : IsUnit (take size (drop at input)) (meaning g))
-    (within : at + size ≤ length input) (follows : IsOfWanted a.version (meaning g).version) where
+    (within : at + size ≤ length input) (follows : IsOf a.version (meaning g).version) where
   abbrev d : List Payload
   d = r.d
 
@@ -289,10 +290,10 @@ module _ (h : Held) (a : Answer) (at size : ℕ) (input index output : List ℕ)
     parts = sym (take-append-drop size (drop at input));
   }
 
-  lies_first : (a.version ≡ Some r.v) → IsOfWanted a.version v → r.v ≡ v
-  lies_first is o = of_is (subst (λ w. IsOfWanted w v) is o)
+  lies_first : (a.version ≡ Some r.v) → IsOf a.version v → r.v ≡ v
+  lies_first is o = of_is (subst (λ w. IsOf w v) is o)
     where
-      of_is : IsOfWanted (Some r.v) v → r.v ≡ v
+      of_is : IsOf (Some r.v) v → r.v ≡ v
       of_is o = o
 
   lies_before : LieAt input v r.xs
@@ -358,9 +359,9 @@ module _ (h : Held) (a : Answer) (at size : ℕ) (input index output : List ℕ)
   based_next None b = tt
   based_next (Some x) b = λ anew.
       let is : a.version ≡ Some (end_meaning x).version = b anew in
-      ap (λ w. Some w) (sym (of_is (subst (λ w. IsOfWanted w v) is follows)))
+      ap (λ w. Some w) (sym (of_is (subst (λ w. IsOf w v) is follows)))
     where
-      of_is : IsOfWanted (Some (end_meaning x).version) v → (end_meaning x).version ≡ v
+      of_is : IsOf (Some (end_meaning x).version) v → (end_meaning x).version ≡ v
       of_is o = o
 
   module _ (asked : Option Bool) (is_asked : asked ≡ asked_since (so_much h d).pending h.asks_all)
@@ -434,12 +435,12 @@ module _ (h : Held) (a : Answer) (at size : ℕ) (input index output : List ℕ)
 -- ---- for an end of data
 
 pub lies_at_end : (h : Held) (a : Answer) (at : ℕ) (input index output : List ℕ)
-    (r : Ready h a at input index output) (v : ℕ) → IsOfWanted a.version v → LieAt input v r.xs
+    (r : Ready h a at input index output) (v : ℕ) → IsOf a.version v → LieAt input v r.xs
 lies_at_end h a at input index output r v o = elim r.of_version [
   | inl none ↦ subst (LieAt input v) (sym none) (record { units = tt; rising = tt })
   | inr is ↦
-      subst (λ w. LieAt input w r.xs) (of_is r.v (subst (λ w. IsOfWanted w v) is o)) r.lies
+      subst (λ w. LieAt input w r.xs) (of_is r.v (subst (λ w. IsOf w v) is o)) r.lies
 ]
   where
-    of_is : (w : ℕ) → IsOfWanted (Some w) v → w ≡ v
+    of_is : (w : ℕ) → IsOf (Some w) v → w ≡ v
     of_is w o = o

@@ -32,7 +32,7 @@ use Rattle.data_loading.specs.Loading.{HasOpenAnswer, IsInside, Loads, RefusesLo
 use Rattle.data_loading.specs.Loading.{Taken, begun_version, current_version, is_payload}
 use Rattle.data_loading.specs.Loading.{version_borne, version_step, version_taken}
 use Rattle.data_loading.specs.PrivateLoading.{GathersAnswer, Idle, IsBased, IsBegun, IsCurrent}
-use Rattle.data_loading.specs.PrivateLoading.{IsOfWanted}
+use Rattle.data_slices.specs.AtOffsets.{IsOf}
 use Rattle.data_loading.specs.PrivateLoading.{IsRightReason, IsStateOf, KeepsData, ReadsSoMuch}
 use Rattle.data_loading.specs.PrivateLoading.{StandsAt}
 use Rattle.data_loading.specs.PrivateLoading.{StandsWhole, WritesBack, base_size, change_fault_of}
@@ -65,14 +65,14 @@ base_is false n (Some x) d output k =
 -- for an end of data of the version of the answer
 pub base_of_end : (a : Answer) (anew : Bool) → a.is_anew ≡ anew → (n : ℕ)
     (end : Option EndOfData) (d : List Payload) (output : List ℕ) (v : ℕ) →
-    KeepsData n end d output → IsBased a end → IsOfWanted a.version v →
+    KeepsData n end d output → IsBased a end → IsOf a.version v →
     IsBase v (take (base_size anew n) output) (payloads_begun anew d)
 base_of_end a true e n end d output v k b o = inl (refl, refl)
 base_of_end a false e n None d output v k b o = inl (ap (λ i. take i output) k.0, k.1)
 base_of_end a false e n (Some x) d output v k b o =
-    inr (end_meaning x, of_is (subst (λ w. IsOfWanted w v) (b e) o), k.3)
+    inr (end_meaning x, of_is (subst (λ w. IsOf w v) (b e) o), k.3)
   where
-    of_is : IsOfWanted (Some (end_meaning x).version) v → (end_meaning x).version ≡ v
+    of_is : IsOf (Some (end_meaning x).version) v → (end_meaning x).version ≡ v
     of_is o = o
 
 -- ---- the open answer's changes
@@ -167,7 +167,7 @@ knows h (Some b) a d units held (made, is, version) c = record {
       ∙ ap (λ (x : Answer). x.version) (sym c);
 }
 
-some_other : (version : Option ℕ) (v : ℕ) → (IsOfWanted version v → ⊥) →
+some_other : (version : Option ℕ) (v : ℕ) → (IsOf version v → ⊥) →
     (w : ℕ) × (version ≡ Some w) × (w ≢ v)
 some_other None v n = absurd (n tt)
 some_other (Some w) v n = (w, refl, n)
@@ -175,7 +175,7 @@ some_other (Some w) v n = (w, refl, n)
 module _ (h : Held) (a : Answer) (c : IsCurrent h.pending a h) (at size : ℕ) (input : List ℕ)
     (f : AnyFields) (has : HasAnyFields (take size (drop at input)) f) (rule : KeepsPrefixRule f)
     (within : at + size ≤ length input) where
-  pub other_version : (v : ℕ) → version_borne f ≡ Some v → (IsOfWanted a.version v → ⊥) →
+  pub other_version : (v : ℕ) → version_borne f ≡ Some v → (IsOf a.version v → ⊥) →
       IsRightReason (reasons.UnitVersion v) h input at
   other_version v of n d t is =
       let k = knows h h.pending a d t.units t.held is c in

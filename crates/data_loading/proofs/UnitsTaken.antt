@@ -17,7 +17,8 @@ use Rattle.data_recordings.specs.Recordings.{SoMuch, asked_since, refusal_in, un
 use Rattle.data_recordings.specs.declared.stop.Refusal.{Refusal}
 use Rattle.data_recordings.specs.declared.stop.Refusal.TheVariants as refusals
 use Rattle.data_slices.specs.AtOffsets.{HaveLying, IsBase}
-use Rattle.data_loading.specs.PrivateLoading.{IsBegun, IsCurrent, IsOfWanted, IsRightReason}
+use Rattle.data_loading.specs.PrivateLoading.{IsBegun, IsCurrent, IsRightReason}
+use Rattle.data_slices.specs.AtOffsets.{IsOf}
 use Rattle.data_loading.specs.Loading.{RefusesLoad}
 use Rattle.data_loading.specs.PrivateLoading.{ReadsSoMuch, Sees, StandsAt, StandsWhole}
 use Rattle.data_loading.specs.PrivateLoading.{WritesBackAll}
@@ -54,14 +55,14 @@ module _ (h : Held) (a : Answer) (c : IsCurrent h.pending a h) (at size : ℕ)
     (input index output : List ℕ) (s : StandsAt h at input index output)
     (within : at + size ≤ length input) where
   pub unit_refused : (v : ℕ) → Sees (seens.Payload v) (take size (drop at input)) →
-      (IsOfWanted a.version v → ⊥) → IsRightReason (reasons.UnitVersion v) h input at
+      (IsOf a.version v → ⊥) → IsRightReason (reasons.UnitVersion v) h input at
   unit_refused v sees n =
       let p = payload_seen (take size (drop at input)) v sees in
       other_version h a c at size input (payload p.g) p.has p.rule within v
       (ap (λ w. Some w) p.version) n
 
   pub unit_taken : (v : ℕ) → Sees (seens.Payload v) (take size (drop at input)) →
-      IsOfWanted a.version v → (asked : Option Bool) →
+      IsOf a.version v → (asked : Option Bool) →
       ((d : List Payload) → asked ≡ asked_since (so_much h d).pending h.asks_all) →
       (index' : List ℕ) → length index' ≡ length index →
       ((os : List ℕ) → (a.count ≤ length index → take a.count index ≡ os) →
@@ -78,12 +79,12 @@ module _ (h : Held) (a : Answer) (c : IsCurrent h.pending a h) (at size : ℕ)
         pending = Some (record a { count = a.count + 1; version = Some w });
       }) (at + size) input index' output) p.version
       (pushes h a at size input index output r p.g p.has p.rule p.unit within
-      (subst (IsOfWanted a.version) (sym p.version) o) asked (is_asked r.d) index' same put)
+      (subst (IsOf a.version) (sym p.version) o) asked (is_asked r.d) index' same put)
 
   -- ---- ends of data
 
   pub end_of_other : (x : EndOfData) (v : ℕ) → v ≡ (end_meaning x).version →
-      Sees (seens.End x) (take size (drop at input)) → (IsOfWanted a.version v → ⊥) →
+      Sees (seens.End x) (take size (drop at input)) → (IsOf a.version v → ⊥) →
       IsRightReason (reasons.UnitVersion v) h input at
   end_of_other x v is (f, has, rule, (same, end)) n =
       other_version h a c at size input (end_of_data (end_meaning x))
@@ -202,7 +203,7 @@ module _ (h : Held) (a : Answer) (c : IsCurrent h.pending a h) (at size : ℕ)
     (input index output : List ℕ) (s : StandsAt h at input index output)
     (within : at + size ≤ length input) (x : EndOfData)
     (sees : Sees (seens.End x) (take size (drop at input)))
-    (o : IsOfWanted a.version (end_meaning x).version) where
+    (o : IsOf a.version (end_meaning x).version) where
   abbrev r : Ready h a at input index output
   r = ready h a at input index output s c
 

@@ -89,11 +89,6 @@ pub record IsBegun (a : Answer) (h : Held) (d : List Payload) (session : Option 
   pub count : a.count ≡ 0
   pub based : IsBased a h.end
 
--- a unit of the version may come where this version is required, if any is
-abbrev pub IsOfWanted : Option ℕ → ℕ → Type 0
-IsOfWanted None v = ⊤
-IsOfWanted (Some w) v = w ≡ v
-
 abbrev pub IsCurrent : (pending : Option Answer) → Answer → Held → Type 0
 IsCurrent (Some a) result h = result ≡ a
 IsCurrent None result h = (d : List Payload) → IsBegun result h d (last_session (so_much h d))

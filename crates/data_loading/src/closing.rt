@@ -13,10 +13,10 @@ ghost use Rattle.data_loading.specs.declared.seen.Seen.TheVariants as seens;
 
 use crate::fault::{LoadFault, LoadReason};
 use crate::held::{Answer, Held};
-use crate::taking::{is_of, refuse};
+use crate::taking::refuse;
 use data_memory::ChangeError;
 use data_recordings::Refusal;
-use data_slices::{AtFault, check_at, make_at};
+use data_slices::{AtFault, check_at, is_of, make_at};
 use rtr_base::action::Action;
 use rtr_units::end::EndOfData;
 use unit_views::placing::place;

@@ -4,16 +4,12 @@ ghost use Rattle.std.specs.Prelude.{◌≡◌, ◌||◌, List, Some, None, false
 ghost use Rattle.std.specs.Option.{is_some, option_map};
 ghost use Rattle.rtr_units.specs.AnyEnd.{end_meaning};
 ghost use Rattle.rtr_payload.specs.Payloads.{Payload};
-ghost use Rattle.data_recordings.specs.Recordings.{asked_since, begins_anew, is_before, is_wanted};
-ghost use Rattle.data_recordings.specs.Recordings.{is_other as is_another, last_serial};
-ghost use Rattle.data_recordings.specs.Recordings.{last_session};
-ghost use Rattle.data_recordings.specs.Recordings.{refusal_in, refused_since as is_refused_since};
+ghost use Rattle.data_recordings.specs.Recordings.{asked_since, begins_anew, is_wanted};
+ghost use Rattle.data_recordings.specs.Recordings.{last_serial, last_session, refusal_in};
 ghost use Rattle.data_loading.specs.PrivateLoading.{IsBegun, IsCurrent, opened_answer, so_much};
 
-use data_recordings::Refusal;
-use rtr_base::state::Serial;
+use data_recordings::{Refusal, is_other, refused_in};
 use rtr_units::end::EndOfData;
-use std::cmp::Ordering;
 
 /// The state of a recording that was read up to some offset. The payloads themselves lie in a
 /// slice.
@@ -185,40 +181,6 @@ impl Answer {
         ensures { (d : List Payload) →
             result ≡ refusal_in (opened_answer d self.now) (end_meaning end.now) }
     {
-        let session = end.session();
-        match self.session {
-            Some(begun) if begun != session => Some(Refusal::Session(session, begun)),
-            _ => refused_since(self.since, end.serial().0),
-        }
-    }
-}
-
-/// Why changes of data with one serial number can't end with another.
-fn refused_since(since: Option<u32>, serial: u32) -> Option<Refusal>
-    ensures { result ≡ is_refused_since since serial }
-{
-    match since {
-        Some(last) if is_before(serial, last) => Some(Refusal::Serial(serial, last)),
-        _ => None,
-    }
-}
-
-/// Whether a session differs from the one before it.
-fn is_other(last: Option<u16>, session: Option<u16>) -> bool
-    ensures { result ≡ is_another last session }
-{
-    match (last, session) {
-        (Some(last), Some(session)) => last != session,
-        _ => false,
-    }
-}
-
-/// Whether a serial number comes before another (RFC 1982).
-fn is_before(serial: u32, last: u32) -> bool
-    ensures { result ≡ is_before serial last }
-{
-    match Serial(serial).partial_cmp(&Serial(last)) {
-        Some(Ordering::Less) => true,
-        _ => false,
+        refused_in(self.session, self.since, end)
     }
 }

@@ -3,7 +3,7 @@
 ghost use Rattle.std.specs.Prelude.{◌≡◌, ◌≤◌, ◌+◌, ◌++◌, ◌∷◌, [], ℕ, List, IsTrue, length};
 ghost use Rattle.std.specs.Prelude.{◌↔◌, take, drop, min, Err, Some};
 ghost use Rattle.data_loading.specs.Loading.{RefusesLoad};
-ghost use Rattle.data_loading.specs.PrivateLoading.{IsOfWanted, IsRightReason, Sees, Settles};
+ghost use Rattle.data_loading.specs.PrivateLoading.{IsRightReason, Sees, Settles};
 ghost use Rattle.data_loading.specs.PrivateLoading.{StandsAt, TookUnit};
 ghost use Rattle.data_loading.specs.declared.seen.Seen.TheVariants as seens;
 
@@ -12,6 +12,7 @@ use crate::fault::{LoadFault, LoadReason};
 use crate::held::Held;
 use crate::seen::Seen;
 use data_recordings::Refusal;
+use data_slices::{is_of, put_offset};
 
 /// Takes the unit of this size at the offset.
 pub(crate) fn take_unit(
@@ -177,26 +178,5 @@ fn report(
             Err(refuse(held, at, reason, input, index, output))
         }
         None => Ok(()),
-    }
-}
-
-/// Whether a unit of a version may come where this version is required, if any is.
-pub(crate) fn is_of(wanted: Option<u8>, version: u8) -> bool
-    ensures { IsTrue result ↔ IsOfWanted wanted version }
-{
-    match wanted {
-        None => true,
-        Some(wanted) => wanted == version,
-    }
-}
-
-/// Appends the offset to the `count` others, if the index has room for it.
-fn put_offset(index: &mut [usize], count: usize, offset: usize)
-    ensures same_length { length index.new ≡ length index.old }
-    ensures held { (os : List ℕ) → (count ≤ length index.old → take count index.old ≡ os) →
-        count + 1 ≤ length index.new → take (count + 1) index.new ≡ os ++ offset ∷ [] }
-{
-    if count < index.len() {
-        index[count] = offset;
     }
 }

@@ -3,8 +3,10 @@
 #![tactic(auto)]
 
 pub mod laws;
+mod order;
 mod recording;
 mod stop;
 
+pub use order::{is_other, refused_in};
 pub use recording::{Recording, read_recording};
 pub use stop::{Refusal, Stop, StopCause};

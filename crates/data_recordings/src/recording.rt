@@ -25,6 +25,7 @@ ghost use Rattle.data_recordings.specs.Recordings.{is_other, is_wanted, last_ser
 ghost use Rattle.data_recordings.specs.Recordings.{last_session, nothing, opens_answer};
 ghost use Rattle.data_recordings.specs.Recordings.{refusal_in, refused_since, whole};
 
+use crate::order::{is_other, refused_in};
 use crate::stop::{Refusal, Stop, StopCause};
 use data_memory::{ChangeError, Data};
 use rtr_base::action::Action;
@@ -390,59 +391,6 @@ impl OpenAnswer {
     fn refusal(&self, end: &EndOfData) -> Option<Refusal>
         ensures { result ≡ refusal_in self.now (end_meaning end.now) }
     {
-        let session = end.session();
-        match self.session {
-            Some(begun) if begun != session => Some(Refusal::Session(session, begun)),
-            _ => refused_since(self.since, end.serial().0),
-        }
-    }
-}
-
-/// Why changes of data with one serial number can't end with another.
-fn refused_since(since: Option<u32>, serial: u32) -> Option<Refusal>
-    ensures { result ≡ refused_since since serial }
-{
-    match since {
-        Some(last) if is_before(serial, last) => Some(Refusal::Serial(serial, last)),
-        _ => None,
-    }
-}
-
-/// Whether a session differs from the one before it.
-fn is_other(last: Option<u16>, session: Option<u16>) -> bool
-    ensures { result ≡ is_other last session }
-{
-    match (last, session) {
-        (Some(last), Some(session)) => last != session,
-        _ => false,
-    }
-}
-
-/// Whether a serial number comes before another (RFC 1982).
-fn is_before(serial: u32, last: u32) -> bool
-    ensures { result ≡ is_before serial last }
-{
-    match Serial(serial).partial_cmp(&Serial(last)) {
-        Some(Ordering::Less) => true,
-        _ => false,
-    }
-}
-
-/// The data after the change of a unit, whose announcement a reader accepts.
-fn changed_by(
-    mut payloads: Data,
-    action: Action,
-    payload: payload::Payload,
-) -> Result<Data, ChangeError>
-    requires { action ≡ Announce → IsFit (payload_of payload) }
-    ensures { Gives result (changed action (payload_of payload) payloads) }
-{
-    let answer = match action {
-        Action::Announce => payloads.announce(payload),
-        Action::Withdraw => payloads.withdraw(&payload.as_ref()),
-    };
-    match answer {
-        Ok(()) => Ok(payloads),
-        Err(error) => Err(error),
+        refused_in(self.session, self.since, end)
     }
 }

@@ -15,7 +15,8 @@ use Rattle.data_memory.specs.Deltas.{unit_of}
 use Rattle.data_memory.specs.Sequences.{change_of}
 use Rattle.data_slices.specs.Items.{IsItem, meant}
 use Rattle.data_slices.specs.Order.{AreOf, IsOther, IsStray, IsStrayAt}
-use Rattle.data_slices.specs.PrivateOffsets.{IsOf, OffsetsRead, UnitsAt}
+use Rattle.data_slices.specs.AtOffsets.{IsOf}
+use Rattle.data_slices.specs.PrivateOffsets.{OffsetsRead, UnitsAt}
 use Rattle.data_slices.specs.declared.fault.Flaw.{Flaw}
 use Rattle.data_slices.specs.declared.fault.Reason.TheVariants.{Refused, NotCanonical}
 use Rattle.data_slices.specs.declared.item.Item.{Item}

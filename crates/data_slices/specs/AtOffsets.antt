@@ -34,6 +34,11 @@ HaveUnits input v [] (c ∷ cs) = ⊥
 HaveUnits input v (o ∷ os) [] = ⊥
 HaveUnits input v (o ∷ os) (c ∷ cs) = HasUnit input o (unit_of v c) × HaveUnits input v os cs
 
+-- a unit of this version may come where a version is required, if any is
+abbrev pub IsOf : Option ℕ → ℕ → Type 0
+IsOf None v = ⊤
+IsOf (Some w) v = w ≡ v
+
 -- ---- offsets, each with the change of its unit
 
 -- all are above this offset

@@ -84,11 +84,6 @@ SortsOffsets input os =
 
 -- ---- reading
 
--- another unit or end of data is of the version of the units before it
-abbrev pub IsOf : Option ℕ → ℕ → Type 0
-IsOf None n = ⊤
-IsOf (Some v) n = v ≡ n
-
 -- the end of data, and how many units come before it; their offsets, where there is room for all
 pub record OffsetsRead (end : EndOfData) (count : ℕ) (input index : List ℕ) : Type 0 where
   pub os : List ℕ

@@ -3,9 +3,10 @@
 ghost use Rattle.std.specs.Prelude.{◌≡◌, ◌≤◌, ◌+◌, ◌++◌, ◌∷◌, ◌↔◌, [], ℕ, List, length, take};
 ghost use Rattle.std.specs.Prelude.{IfOk, IfErr, IsTrue};
 ghost use Rattle.data_slices.specs.Order.{IsStrayAt};
-ghost use Rattle.data_slices.specs.PrivateOffsets.{IsOf, OffsetsRead};
+ghost use Rattle.data_slices.specs.PrivateOffsets.{OffsetsRead};
 
 use crate::fault::{Flaw, Reason};
+use crate::index::{is_of, put_offset};
 use crate::item::{Item, next};
 use rtr_units::end::EndOfData;
 
@@ -48,27 +49,4 @@ fn flaw(offset: usize, reason: Reason) -> Flaw
     ensures reason { result.reason ≡ reason }
 {
     Flaw { offset, reason }
-}
-
-/// Whether this version is that of the units before, if there are any.
-#[inline(always)]
-fn is_of(version: Option<u8>, other: u8) -> bool
-    ensures { IsTrue result ↔ IsOf version other }
-{
-    match version {
-        None => true,
-        Some(version) => version == other,
-    }
-}
-
-/// Appends the offset to the `count` others, if the index has room for it.
-#[inline(always)]
-fn put_offset(index: &mut [usize], count: usize, offset: usize)
-    ensures same_length { length index.new ≡ length index.old }
-    ensures held { (os : List ℕ) → (count ≤ length index.old → take count index.old ≡ os) →
-        count + 1 ≤ length index.new → take (count + 1) index.new ≡ os ++ offset ∷ [] }
-{
-    if count < index.len() {
-        index[count] = offset;
-    }
 }

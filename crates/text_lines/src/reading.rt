@@ -18,6 +18,7 @@ use rtr_units::numbers::{u16_at, u32_at};
 use rtr_units::prefixes::{Ipv4Prefix, Ipv6Prefix};
 use rtr_units::queries::{CacheReset, CacheResponse, ResetQuery, SerialNotify, SerialQuery};
 use rtr_units::unit::Unit;
+use unit_views::unit_of;
 
 /// The offsets of the identifier, the autonomous system and the key info in a router key.
 const IDENTIFIER: usize = 8;
@@ -46,16 +47,6 @@ pub fn listed_unit(unit: &[u8]) -> Listed<'_>
             body: &unit[HEADER_SIZE..],
         }),
     }
-}
-
-/// The unit of a fixed size with these bytes.
-fn unit_of<U: Unit>(bytes: &[u8]) -> U
-    requires { length bytes.now ≡ U.LENGTH }
-    ensures { U.bytes result ≡ bytes.now }
-{
-    let mut unit = U::zero();
-    unit.as_mut().copy_from_slice(bytes);
-    unit
 }
 
 fn end_of(unit: &[u8]) -> EndOfData

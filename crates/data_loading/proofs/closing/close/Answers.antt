@@ -1,6 +1,6 @@
 use Rattle.std.proofs.Common.{arith, length, min, sym, subst, ◌∙◌}
 use Rattle.std.proofs.lemmas.Bool.{true≢false}
-use Rattle.data_loading.specs.PrivateLoading.{IsOfWanted}
+use Rattle.data_slices.specs.AtOffsets.{IsOf}
 use Rattle.data_loading.proofs.UnitsTaken.{end_base, end_is, end_kept, end_lies, end_lost}
 use Rattle.data_loading.proofs.UnitsTaken.{end_of_other, end_refuses, end_within}
 use Rattle.data_loading.proofs.closing.close.Goals as goal
@@ -26,7 +26,7 @@ write_back-requires-clause-units c =
     c.args.size
     c.args.input.now c.args.index.now c.args.output.now c.requires.stands c.requires.within
     c.args.end.now c.requires.unit
-    (subst (IsOfWanted c.current-answer.result.version) c.version-version.ensures
+    (subst (IsOf c.current-answer.result.version) c.version-version.ensures
     (c.is_of.ensures.0 c.if-not-is_of.false)) (omega (arith, c.if-answer-index.false))
 
 pub write_back-requires-clause-base : goal.write_back-requires-clause-base
@@ -35,7 +35,7 @@ write_back-requires-clause-base c =
     c.args.size
     c.args.input.now c.args.index.now c.args.output.now c.requires.stands c.requires.within
     c.args.end.now c.requires.unit
-    (subst (IsOfWanted c.current-answer.result.version) c.version-version.ensures
+    (subst (IsOf c.current-answer.result.version) c.version-version.ensures
     (c.is_of.ensures.0 c.if-not-is_of.false))
 
 pub write_back-requires-clause-end : goal.write_back-requires-clause-end
@@ -44,7 +44,7 @@ write_back-requires-clause-end c =
     c.args.size
     c.args.input.now c.args.index.now c.args.output.now c.requires.stands c.requires.within
     c.args.end.now c.requires.unit
-    (subst (IsOfWanted c.current-answer.result.version) c.version-version.ensures
+    (subst (IsOf c.current-answer.result.version) c.version-version.ensures
     (c.is_of.ensures.0 c.if-not-is_of.false))
 
 pub write_back-requires-clause-within : goal.write_back-requires-clause-within
@@ -53,7 +53,7 @@ write_back-requires-clause-within c =
     c.args.size
     c.args.input.now c.args.index.now c.args.output.now c.requires.stands c.requires.within
     c.args.end.now c.requires.unit
-    (subst (IsOfWanted c.current-answer.result.version) c.version-version.ensures
+    (subst (IsOf c.current-answer.result.version) c.version-version.ensures
     (c.is_of.ensures.0 c.if-not-is_of.false))
 
 pub returns-in-Ok-clause-takes : goal.returns-in-Ok-clause-takes
@@ -62,7 +62,7 @@ returns-in-Ok-clause-takes c =
     c.args.size
     c.args.input.now c.args.index.now c.args.output.now c.requires.stands c.requires.within
     c.args.end.now c.requires.unit
-    (subst (IsOfWanted c.current-answer.result.version) c.version-version.ensures
+    (subst (IsOf c.current-answer.result.version) c.version-version.ensures
     (c.is_of.ensures.0 c.if-not-is_of.false)) (λ d. c.in-None.ensures d)
     (omega (arith, c.if-answer-index.false))
     (min (length c.args.work.now) (length c.args.output.now)) _ c.asked_since-held.result
@@ -74,6 +74,6 @@ returns-in-Err-clause-takes c =
     c.args.size
     c.args.input.now c.args.index.now c.args.output.now c.requires.stands c.requires.within
     c.args.end.now c.requires.unit
-    (subst (IsOfWanted c.current-answer.result.version) c.version-version.ensures
+    (subst (IsOf c.current-answer.result.version) c.version-version.ensures
     (c.is_of.ensures.0 c.if-not-is_of.false)) (λ d. c.in-None.ensures d)
     (omega (arith, c.if-answer-index.false)) _ _ c.in-Err.fault _ c.in-Err.ensures.writes

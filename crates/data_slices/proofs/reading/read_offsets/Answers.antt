@@ -1,6 +1,6 @@
 use Rattle.std.proofs.Common.{◌+◌, Some, refl, sym, subst, ◌∙◌}
 use Rattle.std.proofs.lemmas.Bool.{true≢false}
-use Rattle.data_slices.specs.PrivateOffsets.{IsOf}
+use Rattle.data_slices.specs.AtOffsets.{IsOf}
 use Rattle.data_slices.proofs.OffsetsRead.{ReadSoFar, ends, goes, refused, stray_end, stray_unit}
 use Rattle.data_slices.proofs.reading.read_offsets.Goals as goal
 
