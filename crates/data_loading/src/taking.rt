@@ -1,7 +1,6 @@
 //! Applying the effect of each unit of a recording.
 
-ghost use Rattle.std.specs.Prelude.{◌≡◌, ◌≤◌, ◌+◌, ◌++◌, ◌∷◌, [], ℕ, List, IsTrue, length};
-ghost use Rattle.std.specs.Prelude.{◌↔◌, take, drop, min, Err, Some};
+ghost use Rattle.std.specs.Prelude.{◌≡◌, ◌≤◌, ◌+◌, ℕ, Err, Some, drop, length, min, take};
 ghost use Rattle.data_loading.specs.Loading.{RefusesLoad};
 ghost use Rattle.data_loading.specs.PrivateLoading.{IsRightReason, Sees, Settles};
 ghost use Rattle.data_loading.specs.PrivateLoading.{StandsAt, TookUnit};

@@ -20,16 +20,15 @@ ghost use Rattle.data_recordings.specs.PrivateRecordings.{
   TakesUnit,
 };
 ghost use Rattle.data_recordings.specs.RecordingRead.{HoldsStopError, ReadsRecording};
-ghost use Rattle.data_recordings.specs.Recordings.{begins_anew, begun_in, closed, is_before};
-ghost use Rattle.data_recordings.specs.Recordings.{is_other, is_wanted, last_serial};
+ghost use Rattle.data_recordings.specs.Recordings.{begins_anew, begun_in, closed};
+ghost use Rattle.data_recordings.specs.Recordings.{is_wanted, last_serial};
 ghost use Rattle.data_recordings.specs.Recordings.{last_session, nothing, opens_answer};
-ghost use Rattle.data_recordings.specs.Recordings.{refusal_in, refused_since, whole};
+ghost use Rattle.data_recordings.specs.Recordings.{refusal_in, whole};
 
 use crate::order::{is_other, refused_in};
 use crate::stop::{Refusal, Stop, StopCause};
 use data_memory::{ChangeError, Data};
 use rtr_base::action::Action;
-use rtr_base::state::Serial;
 use rtr_payload::payload;
 use rtr_payload::pdu::Payload;
 use rtr_units::end::EndOfData;
@@ -37,7 +36,6 @@ use rtr_units::fault::Fault;
 use rtr_units::source::Source;
 use rtr_units::unit::Unit;
 use std::alloc::Global;
-use std::cmp::Ordering;
 use std::marker::Model;
 use unit_any::AnyUnit;
 
@@ -392,5 +390,24 @@ impl OpenAnswer {
         ensures { result ≡ refusal_in self.now (end_meaning end.now) }
     {
         refused_in(self.session, self.since, end)
+    }
+}
+
+/// The data after the change of a unit, whose announcement a reader accepts.
+fn changed_by(
+    mut payloads: Data,
+    action: Action,
+    payload: payload::Payload,
+) -> Result<Data, ChangeError>
+    requires { action ≡ Announce → IsFit (payload_of payload) }
+    ensures { Gives result (changed action (payload_of payload) payloads) }
+{
+    let answer = match action {
+        Action::Announce => payloads.announce(payload),
+        Action::Withdraw => payloads.withdraw(&payload.as_ref()),
+    };
+    match answer {
+        Ok(()) => Ok(payloads),
+        Err(error) => Err(error),
     }
 }

@@ -1,7 +1,6 @@
 //! The offsets of the units at the front of a slice.
 
-ghost use Rattle.std.specs.Prelude.{◌≡◌, ◌≤◌, ◌+◌, ◌++◌, ◌∷◌, ◌↔◌, [], ℕ, List, length, take};
-ghost use Rattle.std.specs.Prelude.{IfOk, IfErr, IsTrue};
+ghost use Rattle.std.specs.Prelude.{◌≡◌, ◌+◌, IfErr, IfOk, length};
 ghost use Rattle.data_slices.specs.Order.{IsStrayAt};
 ghost use Rattle.data_slices.specs.PrivateOffsets.{OffsetsRead};
 
