@@ -13,6 +13,7 @@ ghost use Rattle.unit_any.specs.PrivateHeaders.{IsPlainType, size_beside};
 use crate::length::unit_length;
 use crate::report::Report;
 use crate::report_view::ReportView;
+use rtr_units::header::HEADER_SIZE;
 use rtr_units::numbers::u32_at;
 use rtr_units::queries::{CacheReset, CacheResponse, ResetQuery, SerialNotify, SerialQuery};
 use rtr_units::unit::Unit;
@@ -69,7 +70,7 @@ impl<'a> SessionView<'a> {
         ensures size { IfOk result (λ p. SaysLength input.now (Ok (Some p.1))) }
         ensures fault { IfErr result (λ e. IsSessionFault input.now e.fault e.size) }
     {
-        if input.len() < 8 {
+        if input.len() < HEADER_SIZE {
             return Err(plain(ViewFault::Short));
         }
         match UnitView::first(input) {

@@ -15,5 +15,5 @@ returns-in-Ok-clause-size c =
 pub returns-in_default-clause-fault : goal.returns-in_default-clause-fault
 returns-in_default-clause-fault c =
     other_refused c.args.input.now c.in-Err.fault c.refused.result.fault c.u32_at.result
-    c.refused.result.size c.if-input-lt8.false c.in_default.not-UnitType c.u32_at.ensures
+    c.refused.result.size c.if-input-lt-HEADER_SIZE.false c.in_default.not-UnitType c.u32_at.ensures
     c.in-Err.ensures.fault c.refused.ensures.fault c.refused.ensures.size
