@@ -35,7 +35,11 @@ pub extern "C" fn rtr_next_nonnull(input: &[u8], unit: &mut RtrUnit) -> u8
     ensures { (r : Result (List ℕ × AnyFields) ViewFault) ×
         ShowsFirst r input.now unit.new result }
 {
-    let unit_type = if input.len() < HEADER_SIZE { 255 } else { input[1] };
+    let unit_type = if input.len() < HEADER_SIZE {
+        255
+    } else {
+        input[1]
+    };
     // All arms make the same call, which is compiled for each type by itself: see `show_first`.
     match unit_type {
         SerialNotify::PDU => show_first::<{ SerialNotify::PDU }>(input, unit),
