@@ -145,7 +145,7 @@ def page():
                 text += f"\n## {line}\n"
                 last, states = (), Counter()
             elif line.startswith("none |"):
-                text += f"\nWithout such a word: sections {line.partition('|')[2].strip()}.\n"
+                text += f"\nSections without such a word: {line.partition('|')[2].strip()}.\n"
                 text += "\n| Section | Rule | State | Where, or why not |\n|---|---|---|---|\n"
             elif line.strip() and not line.startswith("#"):
                 section, words, state, shown = row(line)
