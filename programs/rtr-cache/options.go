@@ -150,8 +150,8 @@ func (o *options) ofTLS() []words.Option {
 		},
 		{
 			Name: "tls-client-ca", Argument: "FILE",
-			Help: "Require a certificate from routers, by one of these authorities, " +
-				"that names their address",
+			Help: "Require from routers a certificate that one of these authorities " +
+				"issued, and that names their address",
 			Set: words.Text(&s.TLS.ClientCA),
 		},
 		{
