@@ -47,7 +47,7 @@ func fileOf(first, second []byte) *os.File {
 		return nil
 	}
 	beginHuge(int(descriptor), size)
-	// Once: at a limit of the size of files a second write would end the process.
+	// One write: beyond the limit for file sizes a second one would end the process (SIGXFSZ).
 	if n, err := writeBoth(int(descriptor), first, second); err != nil || n < size {
 		syscall.Close(int(descriptor))
 		return nil

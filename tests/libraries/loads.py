@@ -14,7 +14,7 @@ from sessions import (ASPA, END, IPV4, IPV6, KEY, NOTIFY, QUERY, REPORT, RESET, 
 
 COUNT, MOST_UNITS = 1500, 14
 
-# A unit of no type.
+# A number that no type of unit has.
 NO_TYPE = 5
 
 TEXTS = {"short": "unexpected end of input", "type": "unit type 5 is not allowed here",

@@ -225,8 +225,8 @@ def row_problem(shim, names, name, row):
 def program_problem(shim, program, arguments, given, pieces, usage, others=()):
     """Returns what is wrong with the runs of a program, if anything is.
 
-    Each run writes all of its pieces, or some of them and that memory ran out, or the usage. Some
-    say that memory ran out.
+    Each run writes all of its pieces; or some of them, and reports that memory ran out; or the
+    usage. At least one run reports that memory ran out.
     """
     whole = (0, b"".join(pieces), b"")
     cut = range(max(len(pieces), 1))

@@ -66,7 +66,7 @@ impl Body {
         Body::part(Arc::new(memory), 0, length)
     }
 
-    /// Makes a body of `length` of these bytes, from an offset on; there are as many.
+    /// Makes a body of `length` of these bytes, from an offset on. The memory must have as many.
     pub(crate) fn part(memory: Arc<Memory>, offset: usize, length: usize) -> Body {
         Body {
             memory,

@@ -189,7 +189,7 @@ impl ClientError {
     ) -> ClientError {
         match Unit::first(input) {
             Ok((Unit::ErrorReport(report), _)) => error(report.into_owned()),
-            _ => ClientError::Closed, // which isn't called a report
+            _ => ClientError::Closed, // no report: its caller passes one
         }
     }
 

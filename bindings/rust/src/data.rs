@@ -9,9 +9,9 @@ use core::fmt;
 /// One of the two inputs of a call.
 #[derive(Clone, Copy, Debug, PartialEq, Eq, Hash)]
 pub enum Side {
-    /// The data, or the old data; the left input; or the only one.
+    /// The data; of two data the old ones; of two inputs the left one; or the only input.
     First,
-    /// The changes, or the new data; or the right input.
+    /// The changes; of two data the new ones; of two inputs the right one.
     Second,
 }
 

@@ -99,7 +99,7 @@ impl Served {
     /// [`Door`]: crate::Door
     pub fn refuse(&mut self, moment: &Moment) {
         if self.is_served() && self.output.is_some() {
-            // It isn't new: a report can't begin within an answer.
+            // Not a new connection: a report can't begin within an answer.
             return self.end(ServerError::TooManyClients);
         }
         let serving = self.machine.full(moment.now, moment.present());

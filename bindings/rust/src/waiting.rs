@@ -225,7 +225,7 @@ mod tests {
     use std::thread::spawn;
     use std::time::Duration;
 
-    /// Any number of wake-ups blocks nobody, also while the thread that they wake is busy.
+    /// Waking never blocks, however often, even while the woken thread is busy.
     #[test]
     fn wakes_of_a_busy_thread() {
         let (waker, woken) = waker().unwrap();

@@ -63,7 +63,7 @@ fn restarts() {
     assert_eq!(cache.server.update(data(4)), Ok(false));
     assert_eq!(cache.server.update(data(5)), Ok(true));
     knows(&cache, 1, 1..=5);
-    // It has data now, and so has one that doesn't save.
+    // A cache that has data refuses `save_to`, whether it saves or not.
     assert_eq!(server.update(data(1)), Ok(true));
     for server in [&cache.server, &server] {
         let error = server.save_to(path).unwrap_err();

@@ -220,8 +220,8 @@ fn a_hidden_report() {
     });
 }
 
-/// A failed setup of a socket, which has no Nagle delay, is reported, and no other client waits for
-/// it.
+/// If the caller's function refuses a connection, that is reported, and no other client waits for
+/// it. The function gets sockets without the delay of Nagle's algorithm.
 #[test]
 fn connections_that_are_refused() {
     let _alone = alone();

@@ -214,7 +214,7 @@ impl Stamp {
         Stamp::read(Path::new("/proc/thread-self"))
     }
 
-    /// This moment of the thread of this name, which has begun to run.
+    /// This moment of the thread of this name, which must have started.
     pub fn of(name: &str) -> Stamp {
         Stamp::read(&folders(name).next().expect("a thread of this name"))
     }
