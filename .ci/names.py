@@ -7,7 +7,7 @@ whose names aren't those of the definitions that it describes, in order; a table
 requires: CRATE -->` whose first cells don't name exactly the public functions that can be called
 through that crate and have a precondition; and a name on a page that no source has, as a definition
 that was renamed: a word of a specification or of code, with an underline or a capital inside, or
-with `::`, in quotes on a page of docs/ that speaks of this library alone.
+with `::`, in quotes on a page of docs/ that is only about this library.
 """
 import re
 import sys

@@ -22,7 +22,7 @@ The first form makes in FOLDER, which must not have any of them yet,
 The second puts headers, the shared library with the client and the cache, archives of all three and
 the sources of both, files for pkg-config and CMake, programs and man pages under FOLDER, for this
 machine or the one named (x86_64, aarch64). $CC, or cc, compiles and links, with $CPPFLAGS, $CFLAGS
-and $LDFLAGS. The third links the shared library of the calls of rtr.h alone.
+and $LDFLAGS. The third links only the shared library of the calls of rtr.h.
 
 Each has a README, the licence, the pages that its comments name, and the entries of CHANGELOG.md
 about what it has.
@@ -73,7 +73,7 @@ IN_CRATE = (("; else,\n//! in its repository, from `prebuilt`.", "."),
 # modules there, and lines of imports.
 IN_GO = "../../prebuilt/portable/rtr_wire.c"
 GO_LIBRARY, GO_PROGRAMS = "fishreef/rtr", "fishreef/programs"
-# The package of the programs that their tests alone use.
+# The package of the programs that only their tests use.
 GO_TESTS = pathlib.PurePath("internal", "trial")
 IMPORTS = re.compile(r'(?m)(?:^\t(?:\w+ )?"[^"\n]+"\n)+')
 

@@ -8,8 +8,8 @@ in which this script puts the host's memory in the place of the module's:
 
   - wasm2c narrows each 64-bit address before a load or a store, as binaryen has it; here it stays;
   - constants that are addresses of the module's data become addresses of an array in C. MOVED tells
-    them from other numbers: the same module, linked with its data in another place, so that these
-    numbers alone differ;
+    them from other numbers: the same module, linked with its data in another place, so that only
+    these numbers differ;
   - the module's stack is an array in each call's frame, as long as the deepest calls need it, and
     the module's own look at how much of it is left goes by where that begins;
   - what wasm2c has before and after its functions, as tables, traps and memories that grow, is left

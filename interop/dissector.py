@@ -170,7 +170,7 @@ def read(path):
 
 
 def names(results):
-    """Returns the pair of all comparisons."""
+    """Returns the row of the results for tshark, for a `with`."""
     return Pair(results, PART, "tshark", "", package_version("tshark"))
 
 

@@ -144,7 +144,7 @@ static void test_left(void)
     ends();
 }
 
-/* A server that doesn't save serves its data at once, those of one session alone. */
+/* A server that doesn't save serves its data at once, and only those of one session. */
 static void test_unsaved(void)
 {
     struct rtr_store_head head;

@@ -297,7 +297,7 @@ export class Group {
     counts(payloads: number): boolean;
     tick(now: number): Decision;
     /** Reports what `Link.next` or `Link.askNow` of a member returned, once; its data have this
-     * number of payloads, which counts after TodoKind.DATA alone. That is at most one of the events
+     * number of payloads, which counts only after TodoKind.DATA. That is at most one of the events
      * below. Throws a RangeError for a todo that no link returns, and for no member. */
     tells(now: number, member: number, todo: Todo, payloads: number): Decision;
     /** Reports that a member has the data of a whole answer, with this number of payloads. */

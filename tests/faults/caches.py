@@ -1,5 +1,5 @@
 """Runs a cache beside routers, with faults in the cache's calls on sockets: each router gets the
-units that RFC 8210 wants, whatever fails; a fault that ends a connection ends that one alone; a
+units that RFC 8210 wants, whatever fails; a fault that ends a connection ends only that one; a
 cache that can't accept serves the others, and accepts later; and at the end it has the descriptors
 and threads that it had at the start.
 """

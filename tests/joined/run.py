@@ -6,7 +6,7 @@ and with the steps that led to it.
 usage: run.py [FOLDER]                    the folder has the archive; bindings/lib/x86_64 if not
                                           said, or else prebuilt/x86_64
        run.py [FOLDER] CLIENT CACHE SEED STEPS
-                                          one pair of these (c, go, rust, python, js) alone
+                                          only this pair, of c, go, rust, python and js
 
 The module for JavaScript is that of the folder wasm32 beside the archive's.
 

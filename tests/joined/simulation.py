@@ -134,10 +134,10 @@ class Simulation:
         self.expires = time + SECOND * times[2]
 
     def router_sent(self, sent):
-        """The router finds fault with nothing that the cache sent, unless a close cut it off, which
-        may leave the highest version alone of the report to a router that is one too many, or the
-        cache had no data before, and then those of another session. After a close without a report
-        its next query has to be of a higher version."""
+        """The router reports no unit of the cache, unless a close cut it off, after which only the
+        version may be left of a report to a router above the limit; or the cache had no data
+        before, and then those of another session. After a close without a report its next query
+        has to be of a higher version."""
         for unit in self.link.sent(self.router, sent):
             if self.has_to_rise and unit[0] <= self.asked_version:
                 raise Wrong("the router closed without a word, and asks at no higher version")

@@ -2,7 +2,7 @@
 """Runs `test_rows` over the rows of this folder (a file for each kind of unit), and prints file,
 line and purpose of each that fails.
 
-usage: play.py [FILE..]    with FILE, as aspa, the rows of these files alone
+usage: play.py [FILE..]    with FILE, as aspa, only the rows of these files
        play.py --check     says whether crates/test_rows/stdin is what the files have together
        play.py --write     makes it so
 

@@ -12,7 +12,7 @@ usage: play.py                         by the program `test_scenes`, as each com
                                        step, as `forgets`. Prints how many scenes there were
        play.py --print [--cache]       prints all scenes of a router, or of a cache
        play.py --write                 puts the kept scenes into the sample of `test_scenes`
-       play.py --seed N                connects the machines by this seed alone
+       play.py --seed N                connects the machines by only this seed
 
 The programs are those of `built.py`.
 """

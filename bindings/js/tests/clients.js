@@ -522,7 +522,7 @@ export const TESTS = {
         });
     },
 
-    /** A request beside the end of a connection, or a failed connect, outlives that: the client
+    /** A request that comes as a connection ends, or can't be made, isn't lost: the client
      * connects as soon as the pause allows, long before the retry time. */
     async asksAtALoss(rtr) {
         const scripts = [async (peer) => {

@@ -141,7 +141,7 @@ func (c *Cache) secure(s *sockets) error {
 }
 
 // unused returns an error if certificates or keys were given and no listener uses them: without it
-// routers would be served over TCP alone, although TLS or SSH was meant.
+// routers would be served only over TCP, although TLS or SSH was meant.
 func (c *Cache) unused(s *sockets) error {
 	if c.settings.TLS.Certificate != "" && s.secured[transport.TLS] == nil {
 		return words.Misuse(

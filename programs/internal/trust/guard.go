@@ -12,7 +12,7 @@ import (
 	"fishreef/rtr"
 )
 
-// Rules are the settings of the command line for this.
+// Rules are the command line's settings of the guard.
 type Rules struct {
 	Guard Share         // hold a list that withdraws more of the payloads, of a kind or of an anchor
 	Quiet time.Duration // accept a held list once it has stayed the same for this time

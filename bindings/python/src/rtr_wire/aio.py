@@ -62,7 +62,7 @@ class AsyncClient(Asking):
         host, port: the address of the cache
         settings: limits and times; by default those of `Settings()`, in version 1
         ssl: a context for TLS; the cache's certificate is checked against `host`. The context is
-            set to take its alternative names alone (RFC 8210 section 9.2)
+            set to take only its alternative names (RFC 8210 section 9.2)
         failed: is called with the reason when a connection ends or there is no answer yet; may
             raise
         connect: opens the pair of streams, instead of TCP and TLS

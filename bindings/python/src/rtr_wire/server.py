@@ -603,7 +603,7 @@ class _Connection:
         self._socket.shutdown(socket.SHUT_WR)
 
     def _watch(self, event: int) -> None:
-        """Waits for this event alone; 0 for none."""
+        """Waits only for this event; 0 for none."""
         if event == self._watched:
             return
         loop = self._run.loop

@@ -7,8 +7,8 @@
 //! are files in PEM: one's own certificate and key, and who signed those of the other.
 //!
 //! It is over OpenSSL: a cache has to ask routers for certificates and to see the addresses in them
-//! (section 9.2). The crate native-tls 0.2 can't ask, and rustls 0.20, of Debian 12, takes a
-//! certificate by the names of hosts alone.
+//! (section 9.2). The crate native-tls 0.2 can't ask, and rustls 0.20, of Debian 12, checks
+//! only the names of hosts in a certificate.
 
 use openssl::error::ErrorStack;
 use openssl::ssl::{Ssl, SslAcceptor, SslConnector, SslContextBuilder, SslFiletype};

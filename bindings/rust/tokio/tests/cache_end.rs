@@ -1,5 +1,5 @@
 //! A server plays each scene of a cache (`tests/transcripts` of the repository), except those in
-//! which a cache forgets: a server forgets by its memory alone, which other tests fill.
+//! which a cache forgets: a server forgets only to limit its memory, which other tests fill.
 
 mod ends;
 #[path = "../../src/scenes.rs"]
