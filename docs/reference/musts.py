@@ -27,7 +27,7 @@ The rules have the RFCs' verbs and objects, in a shorter sentence. A state is on
 - **proved**: by the definition, clause or law that is linked, for the proved machines and the library below them;
 - **tested**: by the tests that are linked, without a proof;
 - **left to the caller**: whose it is, and the page that says so;
-- **deviates**: how, what a peer sees of that, and why.
+- **deviates**: how, what a peer sees of that, and why. What isn't done at all is on [SESSIONS](../SESSIONS.md#not-done).
 
 Names lead to definitions (`specs`), laws (`laws`), tests, and scenes of [transcripts](../../tests/transcripts/README.md), which
 the machines of both ends play. The rows come from `docs/reference/musts.txt`; the gate fails where a row lacks what its state
