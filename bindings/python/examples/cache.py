@@ -24,7 +24,8 @@ def say(text: str) -> None:
 
 def say_served(name: str, data: Data) -> None:
     """Says which data are served, and warns of serial number 0."""
-    say(f"{name}: session {data.session} serial {data.serial}: {len(data)} payloads")
+    payloads = "payload" if len(data) == 1 else "payloads"
+    say(f"{name}: session {data.session} serial {data.serial}: {len(data)} {payloads}")
     if data.serial == 0:
         say(f"{name}: serial number 0: a router that lost its first answer may ask with it, and "
             "keep a part of the data")
@@ -33,7 +34,7 @@ def say_served(name: str, data: Data) -> None:
 def take(server: Server, path: str) -> bool:
     """Serves the data of a file; returns False to try again later."""
     try:
-        data = load_data(pathlib.Path(path).read_bytes()).data
+        data, has_cut = load_data(pathlib.Path(path).read_bytes())
     except OSError as error:
         say(f"{path}: {error.strerror}")
         return False
@@ -48,6 +49,8 @@ def take(server: Server, path: str) -> bool:
     except UpdateError as error:
         say(f"{path}: {error}")
         return True
+    if has_cut:
+        say(f"{path}: left out: an answer without an end of data")
     say_served(path, data)
     return True
 
