@@ -386,8 +386,8 @@ func withoutDescriptors(t *testing.T) (release func()) {
 	}
 }
 
-// A watcher doesn't replace a saved file that wasn't restored. It says so once, and goes on when
-// that is removed.
+// A watcher doesn't replace a saved file that wasn't restored. It says so once, and continues
+// when that is removed.
 func TestWatchNotRestored(t *testing.T) {
 	w, last := watched(t)
 	overwrite(t, w.path, sequences(1)[0])

@@ -212,8 +212,8 @@ func TestReportsArrive(t *testing.T) {
 	}
 }
 
-// The wait for a cache to read its report ends by its time, at one that doesn't close, and by the
-// number of bytes, at one that sends on.
+// The wait for a cache to read its report has a limit of time, for one that doesn't close, and a
+// limit of bytes, for one that keeps sending.
 func TestReportsEnd(t *testing.T) {
 	noLeaks(t)
 	unknown := []byte{0, 5, 0, 0, 0, 0, 0, 8}
