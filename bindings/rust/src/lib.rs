@@ -62,9 +62,9 @@
 //!
 //! # Features
 //!
-//! `std`, on by default, has readers, writers, and clients and caches in threads. Without it the
-//! crate is `no_std`, and `alloc` has units, data and changes that own their bytes, [`Router`] and
-//! [`Preferred`].
+//! `std`, on by default and for Linux, has readers, writers, and clients and caches in threads.
+//! Without it the crate is `no_std`, and `alloc` has units, data and changes that own their bytes,
+//! [`Router`] and [`Preferred`].
 //!
 //! [RFC 6810]: https://www.rfc-editor.org/rfc/rfc6810
 //! [RFC 6811]: https://www.rfc-editor.org/rfc/rfc6811

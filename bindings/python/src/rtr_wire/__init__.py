@@ -1,7 +1,8 @@
 """Units of the RPKI to Router protocol (RFC 6810, RFC 8210), data and their changes, clients of a
 cache, and a cache. All rules of the protocol are in a library whose functions are proved to meet
-their contracts; this package calls it by ctypes, and is tested. It requires Linux on x86-64 or
-aarch64, Python 3.9 or newer, and nothing else.
+their contracts; this package calls it by ctypes, and is tested. It requires Python 3.9 or newer,
+and nothing else: the wheels for Linux on x86-64 and aarch64 have the library, elsewhere pip
+compiles it.
 
 Units
     Each of the eleven kinds is a frozen dataclass: `IPv4Prefix` and `IPv6Prefix`, which are both a

@@ -24,8 +24,8 @@ def _load() -> ctypes.CDLL:
         version = library.rtr_wire_version()
     except (OSError, AttributeError) as error:
         raise ImportError(
-            "rtr_wire has a shared library for Linux with glibc on x86-64 or aarch64; "
-            f"RTR_WIRE_LIBRARY names another: {error}") from error
+            "the shared library of rtr_wire can't be loaded "
+            f"(RTR_WIRE_LIBRARY chooses another): {error}") from error
     if version != _rtr.VERSION_NUMBER:
         raise ImportError(f"{path} is of version {version}, not {_rtr.VERSION_NUMBER}")
     for name, (result, arguments) in _rtr.PROTOTYPES.items():
