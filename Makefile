@@ -8,7 +8,7 @@ help: ## lists these words
 test: ## tests the pages, the programs and the libraries, with python3 and a C compiler, in minutes
 	@tests/run
 
-check: ## runs all tests, and names those that it skips for want of a tool
+check: ## runs all tests, and names those that it skips since a tool is missing
 	@.ci/quick
 
 prove: ## the gate: proves and builds all with the kit, and tests what it built, in hours

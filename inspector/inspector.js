@@ -235,7 +235,7 @@ async function begin() {
         say("Open or drop a recording.");
         document.body.dataset.state = "ready";
     } catch (error) {
-        say(error instanceof Fault ? error.message : `The page can't begin: ${error.message}.`);
+        say(error instanceof Fault ? error.message : `The page can't start: ${error.message}.`);
         document.body.dataset.state = "failed";
     }
 }

@@ -73,7 +73,7 @@ static size_t print_change(const uint8_t *bytes, size_t length)
     return line.size;
 }
 
-/* Prints these changes. Exits if there are none for want of memory, or if printing fails. */
+/* Prints these changes. Exits if there is no memory for them, or if printing fails. */
 static void print_changes(const uint8_t *changes, size_t length)
 {
     if (!changes) {

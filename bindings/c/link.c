@@ -282,7 +282,7 @@ static void print_report(size_t offset, size_t filled)
     fprintf(stderr, "%s:%s: %s\n", host, port, text);
 }
 
-/* Reports why the connection ends; `gave_up` is whether that is for want of memory. */
+/* Reports why the connection ends; `gave_up` is whether memory ran out. */
 static void explain(const struct rtr_todo *todo, size_t filled, bool gave_up)
 {
     uint8_t text[RTR_TEXT_AT_ROOM];
