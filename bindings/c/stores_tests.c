@@ -546,7 +546,7 @@ static void check_structs(struct cache *k)
     CHECK(refuses(k, RTR_STORES_SHORT_BUFFER));
 }
 
-/* Random structs. None has a call read or write past a buffer. */
+/* Random structs. No call reads or writes past a buffer, whatever its struct holds. */
 static void check_random(struct cache *k, long count)
 {
     uint64_t seed = 88172645463325252;
