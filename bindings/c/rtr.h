@@ -1213,7 +1213,7 @@ void rtr_router_applied(struct rtr_router *router, uint64_t now, struct rtr_acti
 void rtr_router_not_applied(struct rtr_router *router, uint64_t now, uint8_t status,
                             struct rtr_action *action);
 
-/* Returns when to call rtr_router_tick, if nothing happens before. The time may be past. */
+/* Returns when to call rtr_router_tick, if nothing happens before. The time may be in the past. */
 uint64_t rtr_router_wakes(const struct rtr_router *router);
 
 /* Tells the router of the units at the start of the input: of all payload units of a response that
@@ -1324,7 +1324,7 @@ enum rtr_link_status {
     RTR_LINK_SHORT_BUFFER = 2, /* a buffer is shorter than what it holds; for rtr_link_give_up,
                                   the output is shorter than RTR_LONGEST_UNIT */
     RTR_LINK_BAD_TIME = 3,     /* the time is before that of an earlier call, or not below 2^63 */
-    RTR_LINK_OUT_OF_TURN = 4,  /* no connection is there, or being opened, to which this happens */
+    RTR_LINK_OUT_OF_TURN = 4,  /* there is no connection, open or being opened, for this call */
     RTR_LINK_TOO_LONG = 5      /* more bytes than there is room for, or than are unsent */
 };
 
@@ -1558,7 +1558,7 @@ enum rtr_group_shown {
 /* How rtr_group_tell ended. */
 enum rtr_group_status {
     RTR_GROUP_TOLD = 0,
-    RTR_GROUP_NO_TODO = 1,  /* no call for a router's end leaves such a todo, but a refused one */
+    RTR_GROUP_NO_TODO = 1,  /* only a refused call for a router's end returns this todo */
     RTR_GROUP_NO_MEMBER = 2 /* the group has no such member */
 };
 
@@ -1633,8 +1633,8 @@ void rtr_group_shows(struct rtr_group *group, uint64_t now, size_t member, size_
 void rtr_group_drops(struct rtr_group *group, uint64_t now, size_t member,
                      struct rtr_group_answer *answer);
 
-/* A member failed, and keeps its data if it has any (RTR_NO_DATA; RTR_END without `drops`, except
- * for RTR_CAUSE_LOWER and RTR_CAUSE_HIGHER). */
+/* Reports that a member failed. It keeps its data if it has any (RTR_NO_DATA; RTR_END without
+ * `drops`, except for RTR_CAUSE_LOWER and RTR_CAUSE_HIGHER). */
 void rtr_group_fails(struct rtr_group *group, uint64_t now, size_t member,
                      struct rtr_group_answer *answer);
 
@@ -1755,7 +1755,7 @@ void rtr_cache_lost(struct rtr_cache *cache, uint64_t now, const struct rtr_pres
                     struct rtr_serving *serving);
 
 /* Returns when to call rtr_cache_tick, if nothing happens before and these stay the newest data.
- * The time may be past; UINT64_MAX after the end. */
+ * The time may be in the past; UINT64_MAX after the end. */
 uint64_t rtr_cache_wakes(const struct rtr_cache *cache, const struct rtr_present *present);
 
 /* Tells the cache of the unit at the start of the input. `kept` are the serial numbers of the
@@ -1899,7 +1899,7 @@ void rtr_connection_init(struct rtr_connection *connection, uint64_t now,
 /* Reports that `size` bytes were read. */
 void rtr_connection_received(struct rtr_connection *connection, uint64_t now, size_t size);
 
-/* The router closed the connection. */
+/* Reports that the router closed the connection. */
 void rtr_connection_closed(struct rtr_connection *connection);
 
 /* The connection broke, as after a reset or a failed write: nothing can be sent on it any more, so
@@ -1933,7 +1933,8 @@ uint8_t rtr_connection_next(const struct rtr_connection *connection, uint64_t no
                             const struct rtr_cache *cache, const struct rtr_present *present,
                             uint64_t number, uint8_t *cut);
 
-/* Returns when to call rtr_connection_next, if nothing happens before. The time may be past. */
+/* Returns when to call rtr_connection_next, if nothing happens before. The time may be in the
+ * past. */
 uint64_t rtr_connection_wakes(const struct rtr_connection *connection,
                               const struct rtr_cache *cache, const struct rtr_present *present);
 

@@ -330,7 +330,7 @@ export const LinkStatus: {
     readonly SHORT_BUFFER: 2;
     /** The time is before that of an earlier call, or not below 2^63. */
     readonly BAD_TIME: 3;
-    /** No connection is there, or being opened, to which this happens. */
+    /** There is no connection, open or being opened, for this call. */
     readonly OUT_OF_TURN: 4;
     /** More bytes than there is room for, or than are unsent. */
     readonly TOO_LONG: 5;
@@ -391,7 +391,7 @@ export type GroupShown = (typeof GroupShown)[keyof typeof GroupShown];
 /** How rtr_group_tell ended. */
 export const GroupStatus: {
     readonly TOLD: 0;
-    /** No call for a router's end leaves such a todo, but a refused one. */
+    /** Only a refused call for a router's end returns this todo. */
     readonly NO_TODO: 1;
     /** The group has no such member. */
     readonly NO_MEMBER: 2;

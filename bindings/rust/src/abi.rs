@@ -406,7 +406,7 @@ pub(crate) mod link_status {
     pub(crate) const SHORT_BUFFER: u8 = 2;
     /// The time is before that of an earlier call, or not below 2^63.
     pub(crate) const BAD_TIME: u8 = 3;
-    /// No connection is there, or being opened, to which this happens.
+    /// There is no connection, open or being opened, for this call.
     pub(crate) const OUT_OF_TURN: u8 = 4;
     /// More bytes than there is room for, or than are unsent.
     pub(crate) const TOO_LONG: u8 = 5;
@@ -463,7 +463,7 @@ pub(crate) mod group_shown {
 /// How rtr_group_tell ended.
 pub(crate) mod group_status {
     pub(crate) const TOLD: u8 = 0;
-    /// No call for a router's end leaves such a todo, but a refused one.
+    /// Only a refused call for a router's end returns this todo.
     pub(crate) const NO_TODO: u8 = 1;
     /// The group has no such member.
     pub(crate) const NO_MEMBER: u8 = 2;

@@ -390,7 +390,7 @@ class LinkStatus(enum.IntEnum):
     SHORT_BUFFER = 2
     # The time is before that of an earlier call, or not below 2^63.
     BAD_TIME = 3
-    # No connection is there, or being opened, to which this happens.
+    # There is no connection, open or being opened, for this call.
     OUT_OF_TURN = 4
     # More bytes than there is room for, or than are unsent.
     TOO_LONG = 5
@@ -452,7 +452,7 @@ class GroupStatus(enum.IntEnum):
     """How rtr_group_tell ended."""
 
     TOLD = 0
-    # No call for a router's end leaves such a todo, but a refused one.
+    # Only a refused call for a router's end returns this todo.
     NO_TODO = 1
     # The group has no such member.
     NO_MEMBER = 2

@@ -260,7 +260,7 @@ class Served:
                 return Step(step)
 
     def wakes(self, edition: Edition) -> int:
-        """Returns when to call `next`, if nothing happens before. The time may be past."""
+        """Returns when to call `next`, if nothing happens before. The time may be in the past."""
         return int(CALLS.rtr_connection_wakes(self._connection, self._cache, edition.present))
 
     @property
