@@ -7,6 +7,7 @@ import (
 	"context"
 	"encoding/binary"
 	"errors"
+	"fmt"
 	"io"
 	"math/rand"
 	"net"
@@ -658,4 +659,62 @@ func TestServerWatch(t *testing.T) {
 	if len(errs) > 0 {
 		t.Fatal(<-errs)
 	}
+}
+
+// While rename replaces the watched file, the path may still lead to the old file, which lost its
+// last link (rename(2) of Linux): it isn't loaded again. What changes in it later is, and so is the
+// new file, once, even if it came after the check.
+func TestServerWatchReplaced(t *testing.T) {
+	folder := t.TempDir()
+	path := folder + "/data"
+	file, err := os.Create(folder + "/old")
+	if err != nil {
+		t.Fatal(err)
+	}
+	defer file.Close()
+	if err := os.Symlink(fmt.Sprint("/proc/self/fd/", file.Fd()), path); err != nil {
+		t.Fatal(err)
+	}
+	var server Server
+	server.ready()
+	taken, refused := 0, 0
+	w := newWatcher(&server, path, func(_ Data, err error) {
+		if err == nil {
+			taken++
+		} else if refused++; !errors.Is(err, Short) {
+			t.Error(err)
+		}
+	})
+	defer func() { w.spare.Close() }()
+	checked := func(what string, ofTaken, ofRefused int) {
+		if w.check(); taken != ofTaken || refused != ofRefused {
+			t.Fatalf("%s: %d taken, %d refused", what, taken, refused)
+		}
+	}
+	write := func(input []byte) {
+		if _, err := file.WriteAt(input, 0); err != nil {
+			t.Fatal(err)
+		}
+	}
+	write(end[:13])
+	checked("first", 0, 1)
+	if err := os.Remove(file.Name()); err != nil {
+		t.Fatal(err)
+	}
+	checked("without a link", 0, 1)
+	if err := w.load(); err != nil {
+		t.Fatal(err)
+	}
+	write(ending(1, 7, 1))
+	checked("changed", 1, 1)
+	if err := os.WriteFile(path+".other", end[:13], 0o600); err != nil {
+		t.Fatal(err)
+	}
+	if err := os.Rename(path+".other", path); err != nil {
+		t.Fatal(err)
+	}
+	if err := w.load(); !errors.Is(err, Short) {
+		t.Fatal(err)
+	}
+	checked("replaced after the check", 1, 1)
 }

@@ -35,21 +35,26 @@ func LoadData(path string) (Data, error) {
 	if err != nil {
 		return Data{}, err
 	}
+	return loadFile(file, info)
+}
+
+// loadFile loads the data of an open file, as LoadData does.
+func loadFile(file *os.File, info os.FileInfo) (Data, error) {
 	var read bytes.Buffer
 	if info.Size() <= MostDataBytes {
 		read.Grow(int(info.Size()) + bytes.MinRead)
-		_, err = read.ReadFrom(io.LimitReader(file, MostDataBytes+1))
-	}
-	if err != nil {
-		return Data{}, err
+		if _, err := read.ReadFrom(io.LimitReader(file, MostDataBytes+1)); err != nil {
+			return Data{}, err
+		}
 	}
 	input := read.Bytes()
 	if info.Size() > MostDataBytes || len(input) > MostDataBytes {
-		return Data{}, fmt.Errorf("%s: %w", path, &Fault{Status: NoRoom, Offset: MostDataBytes})
+		fault := &Fault{Status: NoRoom, Offset: MostDataBytes}
+		return Data{}, fmt.Errorf("%s: %w", file.Name(), fault)
 	}
 	data, _, err := Load(input)
 	if err != nil {
-		return Data{}, fmt.Errorf("%s: %w", path, err)
+		return Data{}, fmt.Errorf("%s: %w", file.Name(), err)
 	}
 	return data, nil
 }
@@ -94,13 +99,12 @@ func newWatcher(server *Server, path string, report func(Data, error)) *watcher 
 	return &watcher{server: server, path: path, report: report, seen: stamp{size: -1}}
 }
 
-// check loads the file if it changed, or if the system had an error at the last check.
+// check loads the file if it is due.
 func (w *watcher) check() {
-	now := stampOf(w.path)
-	if now == w.seen && w.failed == "" {
+	info, _ := os.Stat(w.path)
+	if !w.isDue(stampOf(info)) {
 		return
 	}
-	w.seen = now
 	w.spare.Close()
 	old := w.server.present.Load()
 	failed := w.load()
@@ -122,14 +126,23 @@ func (w *watcher) check() {
 	}
 }
 
-// load loads the data of the file into the server.
+// isDue reports whether a file of this stamp has to be loaded: the system had an error at the last
+// check, or the file changed since. While another file is renamed to the path, the path may still
+// lead to the old file, which has lost its last link: that alone is no change.
+func (w *watcher) isDue(now stamp) bool {
+	replaced := w.seen
+	replaced.links, replaced.changed = 0, now.changed
+	return w.failed != "" || now != w.seen && now != replaced
+}
+
+// load loads the data of the file into the server, if they are due.
 func (w *watcher) load() error {
-	data, err := LoadData(w.path)
+	data, due, err := w.read()
 	var system *os.PathError
 	switch {
 	case errors.As(err, &system):
 		return fmt.Errorf("%s: %w", w.path, system.Err)
-	case err != nil:
+	case err != nil || !due:
 		return err
 	}
 	debug.FreeOSMemory() // of the file's bytes
@@ -139,18 +152,35 @@ func (w *watcher) load() error {
 	return nil
 }
 
-// stamp identifies the state of a file.
-type stamp struct {
-	device, inode    uint64
-	size             int64
-	written, changed syscall.Timespec
+// read returns the data of the file; false if they aren't due. Another file may have come to the
+// path since check: the stamp is that of the file that is read, from before it is read.
+func (w *watcher) read() (data Data, due bool, err error) {
+	file, err := os.Open(w.path)
+	if err != nil {
+		return Data{}, false, err
+	}
+	defer file.Close()
+	info, err := file.Stat()
+	if err != nil || !w.isDue(stampOf(info)) {
+		return Data{}, false, err
+	}
+	w.seen = stampOf(info)
+	data, err = loadFile(file, info)
+	return data, true, err
 }
 
-// stampOf returns the present stamp of a file; the zero stamp if there is no file.
-func stampOf(path string) stamp {
-	var now syscall.Stat_t
-	if syscall.Stat(path, &now) != nil {
+// stamp identifies the state of a file.
+type stamp struct {
+	device, inode, links uint64
+	size                 int64
+	written, changed     syscall.Timespec
+}
+
+// stampOf returns the stamp of a file; the zero stamp for nil.
+func stampOf(info os.FileInfo) stamp {
+	if info == nil {
 		return stamp{}
 	}
-	return stamp{now.Dev, now.Ino, now.Size, now.Mtim, now.Ctim}
+	now := info.Sys().(*syscall.Stat_t)
+	return stamp{now.Dev, now.Ino, uint64(now.Nlink), now.Size, now.Mtim, now.Ctim}
 }
