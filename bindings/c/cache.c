@@ -61,6 +61,7 @@ struct connection {
 struct stamp {
     dev_t device;
     ino_t inode;
+    uint64_t links;
     off_t size;
     struct timespec written, changed;
 };
@@ -315,19 +316,29 @@ struct watched {
     int spare;
 };
 
-static struct stamp stamp_of(const char *path)
+static struct stamp stamp_of(const struct stat *found)
 {
-    struct stat now;
     struct stamp stamp;
     memset(&stamp, 0, sizeof stamp);
-    if (stat(path, &now) == 0) {
-        stamp.device = now.st_dev;
-        stamp.inode = now.st_ino;
-        stamp.size = now.st_size;
-        stamp.written = now.st_mtim;
-        stamp.changed = now.st_ctim;
-    }
+    stamp.device = found->st_dev;
+    stamp.inode = found->st_ino;
+    stamp.links = found->st_nlink;
+    stamp.size = found->st_size;
+    stamp.written = found->st_mtim;
+    stamp.changed = found->st_ctim;
     return stamp;
+}
+
+/* Returns whether a file in this state has to be read: it changed, or couldn't be read before.
+ * While another file is renamed to the path, the path may still lead to the old file, which has
+ * lost its last link: that alone is no change. */
+static bool is_due(const struct watched *w, const struct stat *found)
+{
+    struct stamp stamp = stamp_of(found), replaced = w->seen;
+    replaced.links = 0;
+    replaced.changed = stamp.changed;
+    return (w->failed[0] && now() >= w->again)
+           || (memcmp(&stamp, &w->seen, sizeof stamp) && memcmp(&stamp, &replaced, sizeof stamp));
 }
 
 /* Closes the descriptor in reserve, before a file is opened. */
@@ -343,18 +354,29 @@ static void take_spare(struct watched *w)
     server.spare = w->spare >= 0;
 }
 
-/* Reads a file of at most `most` bytes, or of any size for 0, into memory that the caller frees;
- * null if that fails, with the reason in errno. */
-static uint8_t *read_file(const char *path, off_t most, size_t *length)
+/* Opens a file, and returns its state; -1 if that fails, with the reason in errno. */
+static int open_file(const char *path, struct stat *found)
 {
-    struct stat now;
     int file = open(path, O_RDONLY | O_CLOEXEC);
-    ssize_t count = file < 0 || fstat(file, &now) ? -1 : 1;
-    bool too_long = count > 0 && most && now.st_size > most;
-    uint8_t *bytes = count > 0 && !too_long ? malloc((size_t)now.st_size + 1) : NULL;
+    if (file < 0 || fstat(file, found) == 0)
+        return file;
+    int error = errno;
+    close(file);
+    errno = error;
+    return -1;
+}
+
+/* Reads a file that `open_file` opened, of at most `most` bytes, or of any size for 0, into memory
+ * that the caller frees, and closes it; null if that fails, with the reason in errno, which stays
+ * for the file -1. */
+static uint8_t *read_file(int file, off_t size, off_t most, size_t *length)
+{
+    ssize_t count = 1;
+    bool too_long = file >= 0 && most && size > most;
+    uint8_t *bytes = file >= 0 && !too_long ? malloc((size_t)size + 1) : NULL;
     errno = too_long ? EFBIG : errno;
     for (*length = 0; bytes && count > 0; *length += count > 0 ? (size_t)count : 0)
-        count = read(file, bytes + *length, (size_t)now.st_size - *length);
+        count = read(file, bytes + *length, (size_t)size - *length);
     int error = errno;
     if (file >= 0)
         close(file);
@@ -473,9 +495,11 @@ static void save(struct watched *w)
  * before the name of the file was on the disk: the folder is synced before the data are served. */
 static bool restore(const struct watched *w)
 {
+    struct stat found = {.st_size = 0};
     size_t length;
     unlink(w->beside);
-    uint8_t *bytes = read_file(w->kept, 0, &length);
+    int file = open_file(w->kept, &found);
+    uint8_t *bytes = read_file(file, found.st_size, 0, &length);
     if (!bytes && errno == ENOENT)
         return true;
     if (!bytes || !sync_folder(w->kept)) {
@@ -517,19 +541,27 @@ static void update(struct watched *w, uint8_t *bytes, size_t length)
     w->retry = update == RTR_UPDATE_TAKEN ? 0 : w->retry;
 }
 
-/* Loads the file if it changed, or couldn't be loaded before. */
+/* Loads the file if it is due. Another one may have come to the path since: the state is that of
+ * the file that is read, from before it is read. */
 static void look(struct watched *w)
 {
+    struct stat found;
     size_t length;
-    struct stamp stamp = stamp_of(w->path);
-    bool changed = memcmp(&stamp, &w->seen, sizeof stamp);
-    if (!changed && (!w->failed[0] || now() < w->again))
+    if (stat(w->path, &found))
+        memset(&found, 0, sizeof found);
+    if (!is_due(w, &found))
         return;
     give_spare(w);
-    uint8_t *bytes = read_file(w->path, most_bytes, &length);
+    int file = open_file(w->path, &found);
+    if (!is_due(w, &found)) {
+        close(file);
+        take_spare(w);
+        return;
+    }
+    uint8_t *bytes = read_file(file, found.st_size, most_bytes, &length);
     int error = errno;
     take_spare(w);
-    w->seen = stamp;
+    w->seen = stamp_of(&found);
     if (bytes) {
         update(w, bytes, length);
     } else if (error == EFBIG) {

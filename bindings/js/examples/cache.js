@@ -7,7 +7,7 @@
 // 4 .. seconds, up to a minute. If FILE.kept is damaged, the cache doesn't start: remove it, and
 // give the data a session that was never used.
 
-import { readFile, stat } from "node:fs/promises";
+import { open, stat } from "node:fs/promises";
 import { setTimeout as pause } from "node:timers/promises";
 import { parseArgs } from "node:util";
 import { Fault, load } from "../rtr_wire.js";
@@ -88,10 +88,31 @@ async function restore() {
     }
 }
 
-/** Returns what differs in a changed file. */
-async function markOf(path) {
-    const { dev, ino, size, mtimeNs, ctimeNs } = await stat(path, { bigint: true });
-    return [dev, ino, size, mtimeNs, ctimeNs].join();
+/**
+ * Returns whether a file isn't as the one that was seen last. While another file is renamed to the
+ * path, the path may still lead to the old file, which has lost its last link: that sets the time
+ * of its inode, and is no change.
+ */
+function differs(found, seen) {
+    const names = ["dev", "ino", "size", "mtimeNs", ...found.nlink > 0n ? ["ctimeNs"] : []];
+    return seen === null || names.some((name) => found[name] !== seen[name]);
+}
+
+/**
+ * Returns the state of the file, and its bytes unless it is as the one that was seen last. Another
+ * file may have the path at any time: the state is that of the file that is read.
+ */
+async function read(seen) {
+    if (!differs(await stat(file, { bigint: true }), seen)) {
+        return [seen, null];
+    }
+    const opened = await open(file);
+    try {
+        const found = await opened.stat({ bigint: true });
+        return differs(found, seen) ? [found, await opened.readFile()] : [seen, null];
+    } finally {
+        await opened.close();
+    }
 }
 
 /** Serves the data of the file, once they are saved. Throws the errors of saving. */
@@ -115,12 +136,11 @@ async function serve(bytes) {
 
 /** Follows the file until the signal. */
 async function follow() {
-    let [mark, failure, retry] = [null, null, 0];
+    let [seen, failure, retry] = [null, null, 0];
     for (;; await pause(retry || LOOK, null, { signal: stop.signal })) {
         let [found, bytes] = [null, null];
         try {
-            found = await markOf(file);
-            bytes = found === mark ? null : await readFile(file);
+            [found, bytes] = await read(seen);
         } catch ({ message }) {
             if (message !== failure) {
                 say(`${file}: ${message}`);
@@ -133,7 +153,7 @@ async function follow() {
             if (bytes !== null) {
                 await serve(bytes);
             }
-            [mark, retry] = [found, 0];
+            [seen, retry] = [found, 0];
         } catch ({ message }) {
             say(`${kept}: ${message}`);
             retry = rtr.retryAfter(retry);

@@ -31,13 +31,10 @@ def say_served(name: str, data: Data) -> None:
             "keep a part of the data")
 
 
-def take(server: Server, path: str) -> bool:
+def take(server: Server, path: str, content: bytes) -> bool:
     """Serves the data of a file; returns False to try again later."""
     try:
-        data, has_cut = load_data(pathlib.Path(path).read_bytes())
-    except OSError as error:
-        say(f"{path}: {error.strerror}")
-        return False
+        data, has_cut = load_data(content)
     except Fault as fault:
         say(f"{path}: {fault}")
         return True
@@ -55,25 +52,41 @@ def take(server: Server, path: str) -> bool:
     return True
 
 
-def mark_of(path: str) -> Optional[Tuple[int, ...]]:
-    """Returns what differs in another file of this name, which may have the inode of an earlier
-    one; None without a file."""
-    try:
-        found = os.stat(path)
-    except OSError:
-        return None
-    return found.st_dev, found.st_ino, found.st_size, found.st_mtime_ns, found.st_ctime_ns
+def differs(found: os.stat_result, seen: Optional[os.stat_result]) -> bool:
+    """Returns whether a file isn't as the one that was seen last. While another file is renamed to
+    the path, the path may still lead to the old file, which has lost its last link: that sets the
+    time of its inode, and is no change."""
+    names = ["st_dev", "st_ino", "st_size", "st_mtime_ns"] + ["st_ctime_ns"] * bool(found.st_nlink)
+    return seen is None or any(getattr(found, name) != getattr(seen, name) for name in names)
+
+
+def read(path: str, seen: Optional[os.stat_result]) -> Optional[Tuple[os.stat_result, bytes]]:
+    """Returns the state of a file and its bytes; None if it is as the one that was seen last.
+    Another file may have the path at any time: the state is that of the file that is read."""
+    if differs(os.stat(path), seen):
+        with open(path, "rb") as file:
+            found = os.fstat(file.fileno())
+            if differs(found, seen):
+                return found, file.read()
+    return None
 
 
 async def follow(server: Server, path: str) -> None:
     """Serves the data of a file whenever another file has its name."""
     seen, pause = None, 0.0
     while True:
-        found = mark_of(path)
-        if found == seen and found is not None or take(server, path):
-            seen, pause = found, 0.0
-        else:
+        try:
+            found = read(path, seen)
+        except OSError as error:
+            say(f"{path}: {error.strerror}")
             pause = retry_after(pause)
+        else:
+            if found is None:
+                pause = 0.0
+            elif take(server, path, found[1]):
+                seen, pause = found[0], 0.0
+            else:
+                pause = retry_after(pause)
         await asyncio.sleep(pause or LOOK)
 
 

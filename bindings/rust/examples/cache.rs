@@ -20,7 +20,7 @@
 use rtr_wire::{load_data, Loaded, LogFields, LogLevel, Server, ServerOptions, UpdateError};
 use std::error::Error;
 use std::fmt::Display;
-use std::fs::File;
+use std::fs::{File, Metadata};
 use std::io::{self, Read};
 use std::os::unix::fs::MetadataExt;
 use std::process::ExitCode;
@@ -149,17 +149,25 @@ fn say(line: impl Display) {
 
 /// What differs in a changed file: its device and inode, its size, and the times when its content
 /// and its inode changed.
-type Mark = (u64, u64, u64, [i64; 4]);
+#[derive(Clone, Copy, PartialEq)]
+struct Mark {
+    inode: (u64, u64),
+    links: u64,
+    size: u64,
+    written: (i64, i64),
+    changed: (i64, i64),
+}
 
-fn mark(file: &str) -> io::Result<Mark> {
-    let found = std::fs::metadata(file)?;
-    let times = [
-        found.mtime(),
-        found.mtime_nsec(),
-        found.ctime(),
-        found.ctime_nsec(),
-    ];
-    Ok((found.dev(), found.ino(), found.size(), times))
+impl Mark {
+    fn of(found: &Metadata) -> Self {
+        Self {
+            inode: (found.dev(), found.ino()),
+            links: found.nlink(),
+            size: found.size(),
+            written: (found.mtime(), found.mtime_nsec()),
+            changed: (found.ctime(), found.ctime_nsec()),
+        }
+    }
 }
 
 /// The file that is served.
@@ -197,15 +205,43 @@ impl Watched<'_> {
         }
     }
 
+    /// Whether a file of this mark isn't the one that was read last. While another file is renamed
+    /// to the path, the path may still lead to the old file, which has lost its last link: that
+    /// alone is no change.
+    fn has_changed(&self, found: Mark) -> bool {
+        let replaced = self.mark.map(|mark| Mark {
+            links: 0,
+            changed: found.changed,
+            ..mark
+        });
+        self.mark != Some(found) && replaced != Some(found)
+    }
+
+    /// The bytes of the file, at most one more than are allowed, if it has changed. Another file
+    /// may have the path at any time: the mark is that of the file that is read.
+    fn read(&mut self) -> io::Result<Option<Vec<u8>>> {
+        if !self.has_changed(Mark::of(&std::fs::metadata(self.file)?)) {
+            return Ok(None);
+        }
+        let file = File::open(self.file)?;
+        let found = Mark::of(&file.metadata()?);
+        if !self.has_changed(found) {
+            return Ok(None);
+        }
+        let mut bytes = Vec::with_capacity(found.size.min(LARGEST) as usize + 1);
+        file.take(LARGEST + 1).read_to_end(&mut bytes)?;
+        (self.mark, self.failure) = (Some(found), None);
+        Ok(Some(bytes))
+    }
+
     /// Loads the file if it has changed, or couldn't be read the last time.
     fn take(&mut self, server: &Server) -> Result<(), String> {
-        let of_file = |error: &dyn Display| format!("{}: {error}", self.file);
-        let found = mark(self.file).map_err(|error| of_file(&error))?;
-        if self.mark == Some(found) {
-            return Ok(());
-        }
-        let bytes = read(self.file).map_err(|error| of_file(&error))?;
-        (self.mark, self.failure) = (Some(found), None);
+        let file = self.file;
+        let of_file = |error: &dyn Display| format!("{file}: {error}");
+        let bytes = match self.read().map_err(|error| of_file(&error))? {
+            Some(bytes) => bytes,
+            None => return Ok(()),
+        };
         let loaded = loaded(&bytes).map_err(|error| of_file(&error))?;
         drop(bytes);
         server.update(loaded.data).map_err(|error| match error {
@@ -249,14 +285,6 @@ fn log(file: &str, kept: &str, level: LogLevel, message: &str, fields: &LogField
         _ if level == LogLevel::Warn => say(format_args!("{file}: {message}")),
         _ => {}
     }
-}
-
-/// The bytes of a file, at most one more than are allowed.
-fn read(file: &str) -> io::Result<Vec<u8>> {
-    let file = File::open(file)?;
-    let mut bytes = Vec::with_capacity(file.metadata()?.len().min(LARGEST) as usize + 1);
-    file.take(LARGEST + 1).read_to_end(&mut bytes)?;
-    Ok(bytes)
 }
 
 /// The data that a file holds.
