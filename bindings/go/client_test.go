@@ -488,25 +488,36 @@ func TestExpire(t *testing.T) {
 // The context ends a client in each of its states.
 func TestClientContext(t *testing.T) {
 	noLeaks(t)
-	half := scene{asked(2, 0), response(2, 7)}
-	whole := scene{asked(2, 0), join(response(2, 7), ending(2, 7, 1))}
-	for name, address := range map[string]string{
-		"no answer":    fakeCache(t, play(t, nil)),
-		"half of one":  fakeCache(t, play(t, nil, half)),
-		"it waits":     fakeCache(t, play(t, nil, whole)),
-		"nobody there": reserved(t),
-	} {
-		ctx, cancel := context.WithTimeout(context.Background(), 20*time.Millisecond)
+	ended := func(ctx context.Context, name, address string, reason error) {
 		client := quick(address)
 		client.Retry = patience
-		if err := client.Run(ctx, func(Update) error { return nil }); err != ctx.Err() || err == nil {
+		if err := client.Run(ctx, func(Update) error { return nil }); err != reason {
 			t.Fatalf("%s: %v", name, err)
 		}
-		if _, err := client.Fetch(ctx); !errors.Is(err, context.DeadlineExceeded) {
+		if _, err := client.Fetch(ctx); !errors.Is(err, reason) {
 			t.Fatalf("%s: %v", name, err)
 		}
-		cancel()
 	}
+	for name, answer := range map[string][]byte{
+		"no answer":   nil,
+		"half of one": response(2, 7),
+		"it waits":    join(response(2, 7), ending(2, 7, 1)),
+	} {
+		ctx, cancel := limited(t)
+		ended(ctx, name, fakeCache(t, func(connection *net.TCPConn) {
+			reader := NewReader(connection)
+			if got := readUnit(reader); !bytes.Equal(got, asked(2, 0)) {
+				t.Errorf("%s: %x was asked", name, got)
+			}
+			connection.Write(answer)
+			time.AfterFunc(20*time.Millisecond, cancel)
+			for readUnit(reader) != nil {
+			}
+		}), context.Canceled)
+	}
+	ctx, cancel := context.WithTimeout(context.Background(), 20*time.Millisecond)
+	defer cancel()
+	ended(ctx, "nobody there", reserved(t), context.DeadlineExceeded)
 }
 
 // The report of a cache that has no data yet is ErrNoData. One of the same code that ends a session
