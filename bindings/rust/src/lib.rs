@@ -62,9 +62,9 @@
 //!
 //! # Features
 //!
-//! `std`, on by default and for Linux, has readers, writers, and clients and caches in threads.
-//! Without it the crate is `no_std`, and `alloc` has units, data and changes that own their bytes,
-//! [`Router`] and [`Preferred`].
+//! `std`, on by default and for 64-bit Linux, has readers, writers, and clients and caches in
+//! threads. Without it the crate is `no_std`, and `alloc` has units, data and changes that own their
+//! bytes, [`Router`] and [`Preferred`].
 //!
 //! [RFC 6810]: https://www.rfc-editor.org/rfc/rfc6810
 //! [RFC 6811]: https://www.rfc-editor.org/rfc/rfc6811
@@ -85,6 +85,12 @@ extern crate std;
 use core::{error, net};
 #[cfg(feature = "std")]
 use std::{error, net};
+
+#[cfg(all(
+    feature = "std",
+    not(all(target_os = "linux", target_pointer_width = "64"))
+))]
+compile_error!("the feature `std` needs 64-bit Linux: use default-features = false");
 
 #[cfg(feature = "std")]
 mod asking;
