@@ -413,17 +413,23 @@ def any_changes(rng, data):
     return list(changes.values())
 
 
+def with_ends(rng, version, session, data, changes):
+    """Returns the units of data and of changes, each with an end of data, and the data after the
+    changes, or None if they are refused."""
+    ends = any_end(rng, version, session), any_end(rng, version, session)
+    units = (data_units(rng, data, version) + [end_form(ends[0])],
+             units_of(rng, version, changes) + [end_form(ends[1])])
+    result, refused = applied(data, changes)
+    return units, announced(result if refused is None else None, ends[1])
+
+
 def apply_cases(rng):
     """Yields data and changes, also with faults in one or both."""
     for _ in range(700):
         version, session = rng.choice([0, 1, 2]), rng.getrandbits(16)
         data = any_data(rng, 12)
         changes = in_order(any_changes(rng, data))
-        ends = any_end(rng, version, session), any_end(rng, version, session)
-        units = (data_units(rng, data, version) + [end_form(ends[0])],
-                 units_of(rng, version, changes) + [end_form(ends[1])])
-        result, refused = applied(data, changes)
-        output = announced(result if refused is None else None, ends[1])
+        units, output = with_ends(rng, version, session, data, changes)
         first, second = (b"".join(side) for side in units)
         yield of_two("apply", first + rng.choice([b"", rng.randbytes(9)]),
                      second + rng.choice([b"", rng.randbytes(30)]), output)
@@ -458,11 +464,7 @@ def in_order_cases(rng):
         version, session = rng.choice([0, 1, 2]), rng.getrandbits(16)
         data = any_data(rng, 10)
         changes = any_sequence(rng, data)
-        ends = any_end(rng, version, session), any_end(rng, version, session)
-        units = (data_units(rng, data, version) + [end_form(ends[0])],
-                 units_of(rng, version, changes) + [end_form(ends[1])])
-        result, refused = applied(data, changes)
-        output = announced(result if refused is None else None, ends[1])
+        units, output = with_ends(rng, version, session, data, changes)
         first, second = (b"".join(side) for side in units)
         first += rng.choice([b"", rng.randbytes(9)])
         yield of_two("in_order", first, second + rng.choice([b"", rng.randbytes(30)]), output,
