@@ -15,9 +15,9 @@ use std::ops::ControlFlow;
 use std::sync::Mutex;
 use std::time::{Duration, Instant};
 
-/// The events of a client.
+/// An event of a client, as its log has it.
 #[derive(Clone, Debug, PartialEq)]
-enum Told {
+enum Logged {
     Data(Data),
     Dropped,
     Failed(String),
@@ -26,7 +26,7 @@ enum Told {
 /// The events of a client, and the payloads after its changes, as lines by their names.
 #[derive(Default)]
 struct Log {
-    told: Vec<Told>,
+    events: Vec<Logged>,
     payloads: BTreeMap<String, String>,
 }
 
@@ -47,7 +47,7 @@ impl Log {
             Event::Data { data, changes, .. } => (*changes, Some(*data)),
             Event::Dropped { changes } => (*changes, None),
             Event::Failed(error) => {
-                self.told.push(Told::Failed(error.to_string()));
+                self.events.push(Logged::Failed(error.to_string()));
                 return;
             }
             other => panic!("{other:?}"),
@@ -60,10 +60,10 @@ impl Log {
                 assert!(self.payloads.remove(&name).is_some(), "{name} is withdrawn");
             }
         }
-        let wanted = data.into_iter().flat_map(Data::units);
-        assert_eq!(self.payloads, wanted.map(|unit| named(&unit)).collect());
-        self.told
-            .push(data.map_or(Told::Dropped, |data| Told::Data(data.clone())));
+        let expected = data.into_iter().flat_map(Data::units);
+        assert_eq!(self.payloads, expected.map(|unit| named(&unit)).collect());
+        self.events
+            .push(data.map_or(Logged::Dropped, |data| Logged::Data(data.clone())));
     }
 }
 
@@ -82,7 +82,7 @@ fn follow<T>(
     address: SocketAddr,
     options: ClientOptions,
     script: impl FnOnce(&Mutex<Log>) -> T,
-) -> Vec<Told> {
+) -> Vec<Logged> {
     let client = Client::new(address.to_string(), options);
     let log = Mutex::new(Log::default());
     std::thread::scope(|scope| {
@@ -102,12 +102,12 @@ fn follow<T>(
         running.join().expect("the client doesn't panic");
         assert!(began.elapsed() < LATE, "the client ends late");
     });
-    log.into_inner().unwrap().told
+    log.into_inner().unwrap().events
 }
 
 /// Reports whether this is the client's last event.
-fn told_last(log: &Mutex<Log>, wanted: &Told) -> bool {
-    holds(|| log.lock().unwrap().told.last() == Some(wanted))
+fn is_last(log: &Mutex<Log>, expected: &Logged) -> bool {
+    holds(|| log.lock().unwrap().events.last() == Some(expected))
 }
 
 /// A cache response, and these bytes after it.
@@ -196,19 +196,19 @@ fn follows_a_server() {
             version,
             ..options()
         };
-        let told = follow(address, options, |log| {
+        let events = follow(address, options, |log| {
             for serial in 1..=4 {
                 if serial > 1 {
                     let data = data_of(SESSION + u16::from(version), serial, 20);
                     assert_eq!(server.update(data), Ok(true));
                 }
-                assert!(told_last(log, &Told::Data(of(serial))));
+                assert!(is_last(log, &Logged::Data(of(serial))));
             }
         });
         assert_eq!(
-            told,
+            events,
             (1..=4)
-                .map(|serial| Told::Data(of(serial)))
+                .map(|serial| Logged::Data(of(serial)))
                 .collect::<Vec<_>>()
         );
     }
@@ -249,11 +249,11 @@ fn a_session() {
         refresh: Some(milliseconds(300)),
         ..options()
     };
-    let told = follow(cache.address(), options, |log| {
+    let events = follow(cache.address(), options, |log| {
         let mut peer = cache.asked(&reset_query(2));
         peer.send(&notify(2, SESSION, 9)); // before an answer it says nothing
         peer.send(&all(2, 1));
-        assert!(told_last(log, &Told::Data(data(1))));
+        assert!(is_last(log, &Logged::Data(data(1))));
         peer.send(&notify(2, SESSION, 1)); // nor where nothing is new
         peer.send(&notify(2, SESSION, 2));
         peer.expect(&serial_query(2, SESSION, 1));
@@ -263,7 +263,7 @@ fn a_session() {
         peer.send(&[2, 8, 0, 0, 0, 0, 0, 8]);
         peer.expect(&reset_query(2));
         peer.send(&all(2, 5));
-        assert!(told_last(log, &Told::Data(data(5))));
+        assert!(is_last(log, &Logged::Data(data(5))));
         // The session is another: the client drops all data, and asks for all.
         peer.expect(&serial_query(2, SESSION, 5));
         peer.send(&response(2, 7));
@@ -272,19 +272,19 @@ fn a_session() {
         let mut peer = cache.asked(&reset_query(2));
         let new = data_of(7, 1, 20);
         peer.send(&[&response(2, 7), new.as_bytes()].concat());
-        assert!(told_last(log, &Told::Data(new)));
+        assert!(is_last(log, &Logged::Data(new)));
         peer
     });
     let other = "unit of another session";
-    let wanted = [
-        Told::Data(data(1)),
-        Told::Data(data(2)),
-        Told::Data(data(5)),
-        Told::Dropped,
-        Told::Failed(other.to_string()),
-        Told::Data(data_of(7, 1, 20)),
+    let expected = [
+        Logged::Data(data(1)),
+        Logged::Data(data(2)),
+        Logged::Data(data(5)),
+        Logged::Dropped,
+        Logged::Failed(other.to_string()),
+        Logged::Data(data_of(7, 1, 20)),
     ];
-    assert_eq!(told, wanted);
+    assert_eq!(events, expected);
 }
 
 /// A client asks a cache without data again. Data that it can't refresh are kept until they expire.
@@ -296,8 +296,8 @@ fn no_data_and_expired_data() {
         expire: Some(milliseconds(2500)),
         ..options()
     };
-    let expired = Told::Failed("the data have expired".to_string());
-    let told = follow(cache.address(), options, |log| {
+    let expired = Logged::Failed("the data have expired".to_string());
+    let events = follow(cache.address(), options, |log| {
         let mut peer = cache.asked(&reset_query(2));
         for _ in 0..2 {
             peer.send(&report(2, ErrorCode::NO_DATA_AVAILABLE));
@@ -305,22 +305,25 @@ fn no_data_and_expired_data() {
         }
         let before = Instant::now();
         peer.send(&all(2, 1));
-        assert!(told_last(log, &Told::Data(data(1))));
+        assert!(is_last(log, &Logged::Data(data(1))));
         drop(peer);
         // It connects again and again. After a serial query without an answer it asks for all data,
         // in the version that the cache answered in.
         drop(cache.asked(&serial_query(2, SESSION, 1)));
         drop(cache.asked(&reset_query(2)));
-        assert!(holds(|| log.lock().unwrap().told.contains(&expired)));
+        assert!(holds(|| log.lock().unwrap().events.contains(&expired)));
         // The client's clock counts whole milliseconds.
         assert!(before.elapsed() >= milliseconds(2499));
     });
-    let place = told.iter().position(|told| *told == Told::Dropped).unwrap();
-    assert_eq!(told[..2], [told[0].clone(), told[0].clone()]);
-    assert_eq!(told[2], Told::Data(data(1)));
+    let dropped = events
+        .iter()
+        .position(|event| *event == Logged::Dropped)
+        .unwrap();
+    assert_eq!(events[..2], [events[0].clone(), events[0].clone()]);
+    assert_eq!(events[2], Logged::Data(data(1)));
     let closed = "the cache closed the connection".to_string();
-    assert_eq!(told[3], Told::Failed(closed));
-    assert_eq!(told.get(place + 1), Some(&expired));
+    assert_eq!(events[3], Logged::Failed(closed));
+    assert_eq!(events.get(dropped + 1), Some(&expired));
 }
 
 /// A client that loads data once fails by the report of a cache that has none.
@@ -378,7 +381,7 @@ fn caches_that_stop() {
     }
     for length in 0..=delta.len() {
         let cache = Played::new();
-        let told = follow(cache.address(), options(), |log| {
+        let events = follow(cache.address(), options(), |log| {
             let mut peer = cache.asked(&reset_query(2));
             peer.send(&[whole.clone(), notify(2, SESSION, 2)].concat());
             peer.expect(&serial_query(2, SESSION, 1));
@@ -392,12 +395,18 @@ fn caches_that_stop() {
                 reset_query(2)
             };
             drop(cache.asked(&query));
-            assert!(log.lock().unwrap().told.contains(&Told::Data(data(serial))));
+            assert!(log
+                .lock()
+                .unwrap()
+                .events
+                .contains(&Logged::Data(data(serial))));
         });
-        let had = told.iter().filter(|told| !matches!(told, Told::Failed(_)));
-        let wanted = [Told::Data(data(1)), Told::Data(data(2))];
+        let had = events
+            .iter()
+            .filter(|event| !matches!(event, Logged::Failed(_)));
+        let expected = [Logged::Data(data(1)), Logged::Data(data(2))];
         let count = 1 + usize::from(length == delta.len());
-        assert_eq!(had.cloned().collect::<Vec<_>>(), wanted[..count]);
+        assert_eq!(had.cloned().collect::<Vec<_>>(), expected[..count]);
     }
 }
 
@@ -413,8 +422,8 @@ type Refused = (Vec<u8>, &'static str, Option<ErrorCode>);
 /// Sequences that are refused.
 fn refused_sequences() -> Vec<Refused> {
     let sequence = |units: &[&[u8]]| answer(2, &[&units.concat()[..], &end_of(1)].concat());
-    let one = prefix(1, 1);
-    let mut old = one.clone();
+    let announced = prefix(1, 1);
+    let mut old = announced.clone();
     old[0] = 1;
     let duplicate = Some(ErrorCode::DUPLICATE_ANNOUNCEMENT_RECEIVED);
     let unknown = Some(ErrorCode::WITHDRAWAL_OF_UNKNOWN_RECORD);
@@ -425,9 +434,9 @@ fn refused_sequences() -> Vec<Refused> {
         "unit of another version than the session",
     ];
     vec![
-        (sequence(&[&one, &one]), texts[0], duplicate),
+        (sequence(&[&announced, &announced]), texts[0], duplicate),
         (sequence(&[&prefix(0, 1)]), texts[1], unknown),
-        (sequence(&[&prefix(0, 1), &one]), texts[1], unknown),
+        (sequence(&[&prefix(0, 1), &announced]), texts[1], unknown),
         (sequence(&[&old]), texts[2], unexpected),
     ]
 }
@@ -636,7 +645,7 @@ fn limits() {
         (bytes - 1, units, Err("the answer is too long".to_string())),
         (bytes, units - 1, Err("the answer is too long".to_string())),
     ];
-    for (bytes, units, wanted) in rows {
+    for (bytes, units, expected) in rows {
         let options = ClientOptions {
             bytes,
             units,
@@ -649,7 +658,7 @@ fn limits() {
             let mut peer = cache.asked(&reset_query(2));
             peer.send(&all(2, 1));
             let fetched = fetched.join().unwrap();
-            assert_eq!(fetched.map_err(|error| error.to_string()), wanted);
+            assert_eq!(fetched.map_err(|error| error.to_string()), expected);
         });
     }
 }
@@ -723,10 +732,10 @@ fn a_query_is_sent_once() {
 fn stopped() {
     let _alone = alone();
     let cache = Played::new();
-    let told = follow(cache.address(), options(), |_| {
+    let events = follow(cache.address(), options(), |_| {
         drop(cache.asked(&reset_query(2)));
     });
-    assert!(told.len() <= 1);
+    assert!(events.len() <= 1);
     let cache = Played::new();
     follow(cache.address(), options(), |_| {
         cache.asked(&reset_query(2)).send(&all(2, 1)[..30]);
@@ -735,7 +744,7 @@ fn stopped() {
     follow(cache.address(), options(), |log| {
         let mut peer = cache.accept();
         peer.send(&all(2, 1));
-        assert!(told_last(log, &Told::Data(data(1))));
+        assert!(is_last(log, &Logged::Data(data(1))));
     });
     // It ends when it is stopped, and returns the data.
     let cache = Played::new();

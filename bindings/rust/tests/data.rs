@@ -136,12 +136,16 @@ fn delta(old: &Model, new: &Model, serial: u8) -> Vec<u8> {
 
 /// A call with an output of this length returns these bytes, and leaves the rest of the output
 /// unchanged; a shorter output is refused.
-fn writes(wanted: &[u8], room: usize, mut call: impl FnMut(&mut [u8]) -> Result<usize, DataError>) {
+fn writes(
+    expected: &[u8],
+    room: usize,
+    mut call: impl FnMut(&mut [u8]) -> Result<usize, DataError>,
+) {
     let mut output = vec![0xa5; room];
-    assert_eq!(call(&mut output), Ok(wanted.len()));
-    assert_eq!(output[..wanted.len()], *wanted);
-    assert!(output[wanted.len()..].iter().all(|byte| *byte == 0xa5));
-    for less in [wanted.len() - 1, wanted.len() / 2, 0] {
+    assert_eq!(call(&mut output), Ok(expected.len()));
+    assert_eq!(output[..expected.len()], *expected);
+    assert!(output[expected.len()..].iter().all(|byte| *byte == 0xa5));
+    for less in [expected.len() - 1, expected.len() / 2, 0] {
         let error = call(&mut output[..less]).unwrap_err();
         assert_eq!((error.fault, error.place), (Fault::NoRoom, None));
     }
@@ -152,15 +156,21 @@ fn deltas() {
     let mut random = Random(34);
     for _ in 0..3000 {
         let (old, new) = (model(&mut random), model(&mut random));
-        let (one, two) = (data(&old, 1), data(&new, 2));
+        let (old_bytes, new_bytes) = (data(&old, 1), data(&new, 2));
         let changes = delta(&old, &new, 2);
-        let room = one.len() + two.len();
-        writes(&changes, room, |output| delta_into(&one, &two, output));
-        let room = one.len() + changes.len();
-        writes(&two, room, |output| apply_into(&one, &changes, output));
+        let room = old_bytes.len() + new_bytes.len();
+        writes(&changes, room, |output| {
+            delta_into(&old_bytes, &new_bytes, output)
+        });
+        let room = old_bytes.len() + changes.len();
+        writes(&new_bytes, room, |output| {
+            apply_into(&old_bytes, &changes, output)
+        });
         // Bytes after an end of data are ignored.
-        let longer = [&one[..], &[1, 2, 3]].concat();
-        writes(&two, room, |output| apply_into(&longer, &changes, output));
+        let longer = [&old_bytes[..], &[1, 2, 3]].concat();
+        writes(&new_bytes, room, |output| {
+            apply_into(&longer, &changes, output)
+        });
     }
 }
 
@@ -200,12 +210,12 @@ fn changes_in_any_order() {
         writes(&changes, length, |output| {
             order_into(&changes, &mut index, output)
         });
-        let (one, two) = (data(&old, 1), data(&new, 2));
-        writes(&two, one.len() + length, |output| {
-            apply_into(&one, &changes, output)
+        let (old_bytes, new_bytes) = (data(&old, 1), data(&new, 2));
+        writes(&new_bytes, old_bytes.len() + length, |output| {
+            apply_into(&old_bytes, &changes, output)
         });
-        writes(&two, one.len() + sent.len(), |output| {
-            apply_in_order(&one, &sent, &mut index, output)
+        writes(&new_bytes, old_bytes.len() + sent.len(), |output| {
+            apply_in_order(&old_bytes, &sent, &mut index, output)
         });
     }
 }
@@ -301,16 +311,16 @@ fn what_holds_no_data() {
 
 #[test]
 fn inputs_that_do_not_fit_together() {
-    let (one, other) = (end(5, 1), end(6, 2));
+    let (empty, other) = (end(5, 1), end(6, 2));
     let in_order = |data: &[u8], changes: &[u8], output: &mut [u8]| {
         apply_in_order(data, changes, &mut [0; 9], output)
     };
     for call in [delta_into, apply_into, in_order] {
-        let version = refused(|out| call(&one, &END_0, out)).0;
+        let version = refused(|out| call(&empty, &END_0, out)).0;
         assert_eq!(version, Fault::UnitVersion(0));
         let version = refused(|out| call(&END_0, &other, out)).0;
         assert_eq!(version, Fault::UnitVersion(2));
-        let session = refused(|out| call(&one, &other, out)).0;
+        let session = refused(|out| call(&empty, &other, out)).0;
         assert_eq!(session, Fault::OtherSession);
     }
 }
@@ -339,13 +349,13 @@ fn changes_that_the_rules_refuse() {
     ];
     for (units, fault, offset) in rows {
         let changes = [units.concat(), end.clone()].concat();
-        let wanted = (fault, at(Side::Second, offset));
-        assert_eq!(refused(|out| apply_into(&data, &changes, out)), wanted);
+        let expected = (fault, at(Side::Second, offset));
+        assert_eq!(refused(|out| apply_into(&data, &changes, out)), expected);
     }
     // An ASPA replaces another.
     let changes = [aspa(3, &[7, 8]).announce, end.clone()].concat();
-    let wanted = [ipv4(1).announce, aspa(3, &[7, 8]).announce, end].concat();
-    writes(&wanted, 400, |output| apply_into(&data, &changes, output));
+    let expected = [ipv4(1).announce, aspa(3, &[7, 8]).announce, end].concat();
+    writes(&expected, 400, |output| apply_into(&data, &changes, output));
 }
 
 /// The fault is that of the first change in the answer that announces a present payload or
@@ -364,16 +374,16 @@ fn changes_in_order_that_the_rules_refuse() {
     ];
     for (units, fault, offset) in rows {
         let changes = [units.into_iter().flatten().copied().collect(), end(5, 2)].concat();
-        let wanted = (fault, at(Side::Second, offset));
+        let expected = (fault, at(Side::Second, offset));
         let answer = refused(|out| apply_in_order(&data, &changes, &mut [0; 9], out));
-        assert_eq!(answer, wanted);
+        assert_eq!(answer, expected);
     }
     // An ASPA that is announced, even over another one, and then withdrawn is gone.
     let (other, gone) = (aspa(3, &[7, 8]).announce, aspa(3, &[]).withdraw);
     let changes = [&other[..], &gone, &end(5, 2)].concat();
-    let wanted = [&a.announce[..], &end(5, 2)].concat();
+    let expected = [&a.announce[..], &end(5, 2)].concat();
     let mut index = [0; 2];
-    writes(&wanted, 400, |output| {
+    writes(&expected, 400, |output| {
         apply_in_order(&data, &changes, &mut index, output)
     });
     let answer = refused(|out| apply_in_order(&data, &changes, &mut [0; 1], out));
@@ -471,11 +481,14 @@ mod owned {
         let mut random = Random(11);
         for _ in 0..500 {
             let (old, new) = (model(&mut random), model(&mut random));
-            let (one, two) = (data(&old, 1), data(&new, 2));
-            let (old_data, new_data) = (Data::parse(&one).unwrap(), Data::parse(&two).unwrap());
+            let (old_bytes, new_bytes) = (data(&old, 1), data(&new, 2));
+            let (old_data, new_data) = (
+                Data::parse(&old_bytes).unwrap(),
+                Data::parse(&new_bytes).unwrap(),
+            );
             assert_eq!(
                 (old_data.as_bytes(), new_data.as_bytes()),
-                (&one[..], &two[..])
+                (&old_bytes[..], &new_bytes[..])
             );
             assert_eq!(
                 (old_data.len(), old_data.is_empty()),
@@ -486,10 +499,10 @@ mod owned {
             assert_eq!(changes.as_bytes(), delta(&old, &new, 2));
             assert_eq!(order(changes.as_bytes()), Ok(changes.clone()));
             assert_eq!(old_data.apply(&changes), Ok(new_data.clone()));
-            let all = order(&two).unwrap();
+            let all = order(&new_bytes).unwrap();
             let nothing = Data::new(2, 5, 0, None).unwrap();
             assert_eq!(nothing.apply(&all), Ok(new_data.clone()));
-            assert_eq!(nothing.apply_in_order(&two), Ok(new_data.clone()));
+            assert_eq!(nothing.apply_in_order(&new_bytes), Ok(new_data.clone()));
             let in_order = old_data.apply_in_order(changes.as_bytes());
             assert_eq!(in_order, Ok(new_data.clone()));
             let kinds = |names: &Model| names.keys().map(|name| name[0]).collect::<Vec<_>>();

@@ -17,7 +17,7 @@ const FULL: Option<(ErrorCode, u8)> = Some((ErrorCode::INTERNAL_ERROR, 2));
 
 /// A server with data for this many clients, and the texts of why it ended connections.
 fn telling(connections: usize) -> (Server, Receiver<String>) {
-    let (sender, told) = channel();
+    let (sender, endings) = channel();
     let sender = Mutex::new(sender);
     let options = ServerOptions {
         connections,
@@ -27,7 +27,7 @@ fn telling(connections: usize) -> (Server, Receiver<String>) {
         let _ = sender.lock().unwrap().send(error.to_string());
     });
     assert_eq!(server.update(data(1)), Ok(true));
-    (server, told)
+    (server, endings)
 }
 
 fn is_served(client: &mut Peer) {
@@ -37,13 +37,13 @@ fn is_served(client: &mut Peer) {
 
 /// A client that is served, and 64 that are refused, at a server for one.
 fn full(connect: impl Fn() -> Peer) -> (Peer, Vec<Peer>) {
-    let mut one = connect();
-    is_served(&mut one);
+    let mut served = connect();
+    is_served(&mut served);
     let mut refused: Vec<Peer> = (0..64).map(|_| connect()).collect();
     for client in &mut refused {
         assert_eq!(client.report(), FULL);
     }
-    (one, refused)
+    (served, refused)
 }
 
 /// Above the limit 64 clients are refused at once. Others wait to be accepted until one of these
@@ -51,9 +51,9 @@ fn full(connect: impl Fn() -> Peer) -> (Peer, Vec<Peer>) {
 #[test]
 fn clients_that_wait() {
     let _alone = alone();
-    let (server, _told) = telling(1);
+    let (server, _endings) = telling(1);
     let address = server.listen("127.0.0.1:0").unwrap();
-    let (one, mut refused) = full(|| Peer::connect(address));
+    let (served, mut refused) = full(|| Peer::connect(address));
     let mut waiting = Peer::connect(address);
     let patience = Some(milliseconds(500));
     waiting.stream.get_ref().set_read_timeout(patience).unwrap();
@@ -63,7 +63,7 @@ fn clients_that_wait() {
     waiting.stream.get_ref().set_read_timeout(patience).unwrap();
     drop(refused.pop());
     assert_eq!(waiting.report(), FULL);
-    drop(one);
+    drop(served);
     assert!(holds(|| server.clients() == 0));
     is_served(&mut Peer::connect(address));
 }
@@ -72,7 +72,7 @@ fn clients_that_wait() {
 #[test]
 fn connections_that_are_handed_over() {
     let _alone = alone();
-    let (server, told) = telling(1);
+    let (server, endings) = telling(1);
     let listener = std::net::TcpListener::bind("127.0.0.1:0").unwrap();
     let connect = || {
         let client = Peer::connect(listener.local_addr().unwrap());
@@ -84,7 +84,7 @@ fn connections_that_are_handed_over() {
     let (_one, mut refused) = full(connect);
     assert!(connect().is_closed());
     for _ in 0..=64 {
-        let text = told.recv_timeout(PATIENCE);
+        let text = endings.recv_timeout(PATIENCE);
         assert_eq!(text.as_deref(), Ok("too many connections"));
     }
     assert_eq!(server.clients(), 1);
@@ -125,11 +125,11 @@ impl Socket for Unpolled {
 #[test]
 fn a_connection_that_fails_at_once() {
     let _alone = alone();
-    let (server, told) = telling(1);
+    let (server, endings) = telling(1);
     let from = ([192, 0, 2, 1], 323).into();
     let file = File::open(std::env::current_exe().unwrap()).unwrap();
     server.serve(Unpolled(file), from).unwrap();
-    assert!(told.recv_timeout(PATIENCE).is_ok());
+    assert!(endings.recv_timeout(PATIENCE).is_ok());
     let address = server.listen("127.0.0.1:0").unwrap();
     is_served(&mut Peer::connect(address));
 }
@@ -138,7 +138,7 @@ fn a_connection_that_fails_at_once() {
 #[test]
 fn a_client_that_lingers() {
     let _alone = alone();
-    let (server, _told) = telling(1);
+    let (server, _endings) = telling(1);
     let mut client = Peer::connect(server.listen("127.0.0.1:0").unwrap());
     client.send(&prefix(1, 7));
     let invalid = Some((ErrorCode::INVALID_REQUEST, 2));

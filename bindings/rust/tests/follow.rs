@@ -3,8 +3,10 @@
 
 mod common;
 mod peers;
+mod played;
 
 use peers::*;
+use played::options;
 use rtr_wire::*;
 use std::io::{self, ErrorKind};
 use std::net::{SocketAddr, TcpListener, TcpStream};
@@ -18,35 +20,24 @@ use std::time::{Duration, Instant};
 const ENOUGH: Duration = Duration::from_secs(300);
 
 /// The address of a cache while it can be reached.
-type Place = Arc<Mutex<Option<SocketAddr>>>;
+type Address = Arc<Mutex<Option<SocketAddr>>>;
 
-fn options() -> ClientOptions {
-    ClientOptions {
-        version: 2,
-        dial: PATIENCE,
-        response: PATIENCE,
-        pause: milliseconds(5),
-        retry: Some(milliseconds(20)),
-        ..ClientOptions::default()
-    }
-}
-
-fn client(place: &Place, options: ClientOptions) -> Arc<Client> {
-    let place = Arc::clone(place);
+fn client(address: &Address, options: ClientOptions) -> Arc<Client> {
+    let address = Arc::clone(address);
     Arc::new(Client::over(options, move |_| {
-        let address: Option<SocketAddr> = *place.lock().unwrap();
-        let address = address.ok_or_else(|| io::Error::from(ErrorKind::ConnectionRefused))?;
-        let stream = TcpStream::connect(address)?;
+        let current: Option<SocketAddr> = *address.lock().unwrap();
+        let current = current.ok_or_else(|| io::Error::from(ErrorKind::ConnectionRefused))?;
+        let stream = TcpStream::connect(current)?;
         stream.set_nonblocking(true)?;
         Ok(stream)
     }))
 }
 
-fn cache(place: &Place, data: Data) -> Server {
+fn cache(address: &Address, data: Data) -> Server {
     let server = Server::new(ServerOptions::default());
     assert_eq!(server.update(data), Ok(true));
-    let address = server.listen("127.0.0.1:0").expect("a port is free");
-    *place.lock().unwrap() = Some(address);
+    let listening = server.listen("127.0.0.1:0").expect("a port is free");
+    *address.lock().unwrap() = Some(listening);
     server
 }
 
@@ -65,7 +56,7 @@ fn in_time(scene: impl FnOnce() + Send + 'static) {
 
 /// The first cache of two, which starts and stops as the events come.
 struct Scene {
-    first: Place,
+    first: Address,
     server: Option<Server>,
     second: Data,
     /// The data that were used, in order.
@@ -125,17 +116,17 @@ impl Scene {
 #[test]
 fn the_first_that_answers() {
     in_time(|| {
-        let places = [Place::default(), Place::default()];
+        let addresses = [Address::default(), Address::default()];
         let second = data_of(9, 3, 25);
-        let _second = cache(&places[1], second.clone());
+        let _second = cache(&addresses[1], second.clone());
         let mut scene = Scene {
-            first: Arc::clone(&places[0]),
+            first: Arc::clone(&addresses[0]),
             server: None,
             second,
             shown: Vec::new(),
             failed: 0,
         };
-        let clients = |member: usize| client(&places[member], options());
+        let clients = |member: usize| client(&addresses[member], options());
         let data = follow(2, clients, |member, event| scene.tell(member, &event)).unwrap();
         assert_eq!(scene.shown, [(1, 3), (0, 7), (1, 3), (0, 8)]);
         assert_eq!(data, Some(data_of(SESSION, 8, 30)));
@@ -143,10 +134,14 @@ fn the_first_that_answers() {
 }
 
 /// Follows caches until data of the second are used.
-fn until_second(settings: GroupSettings, places: &[Place], on: impl FnMut(&Event<'_>)) -> Data {
+fn until_second(
+    settings: GroupSettings,
+    addresses: &[Address],
+    on: impl FnMut(&Event<'_>),
+) -> Data {
     let mut on = on;
-    let clients = |member: usize| client(&places[member], options());
-    let data = follow_with(settings, places.len(), clients, |member, event| {
+    let clients = |member: usize| client(&addresses[member], options());
+    let data = follow_with(settings, addresses.len(), clients, |member, event| {
         on(&event);
         match event {
             Event::Data { .. } if member == 1 => ControlFlow::Break(()),
@@ -160,11 +155,11 @@ fn until_second(settings: GroupSettings, places: &[Place], on: impl FnMut(&Event
 #[test]
 fn all_that_are_left() {
     in_time(|| {
-        let places = [Place::default(), Place::default(), Place::default()];
-        let last = cache(&places[2], data_of(9, 3, 25));
+        let addresses = [Address::default(), Address::default(), Address::default()];
+        let last = cache(&addresses[2], data_of(9, 3, 25));
         let preferred = Mutex::new(None);
         let clients = |member: usize| {
-            let client = client(&places[member], options());
+            let client = client(&addresses[member], options());
             if member == 0 {
                 *preferred.lock().unwrap() = Some(Arc::clone(&client));
             }
@@ -180,7 +175,7 @@ fn all_that_are_left() {
         thread::scope(|scope| {
             let following = scope.spawn(|| follow(3, clients, on));
             assert_eq!(members.recv(), Ok(2));
-            let _first = cache(&places[0], data(1));
+            let _first = cache(&addresses[0], data(1));
             assert_eq!(members.recv(), Ok(0));
             let are_left = holds(|| last.clients() == 0);
             preferred.lock().unwrap().take().expect("it runs").stop();
@@ -194,16 +189,16 @@ fn all_that_are_left() {
 #[test]
 fn a_silent_cache() {
     in_time(|| {
-        let places = [Place::default(), Place::default()];
+        let addresses = [Address::default(), Address::default()];
         let silent = TcpListener::bind("127.0.0.1:0").unwrap();
-        *places[0].lock().unwrap() = Some(silent.local_addr().unwrap());
-        let _second = cache(&places[1], data_of(9, 3, 25));
+        *addresses[0].lock().unwrap() = Some(silent.local_addr().unwrap());
+        let _second = cache(&addresses[1], data_of(9, 3, 25));
         let settings = GroupSettings {
             patience: milliseconds(500),
             ..GroupSettings::default()
         };
         let began = Instant::now();
-        let data = until_second(settings, &places, |event| {
+        let data = until_second(settings, &addresses, |event| {
             assert!(matches!(event, Event::Data { .. }));
         });
         assert_eq!(data, data_of(9, 3, 25));
@@ -216,20 +211,20 @@ fn a_silent_cache() {
 fn silent_caches() {
     in_time(|| {
         let silent = TcpListener::bind("127.0.0.1:0").unwrap();
-        let place = Place::default();
-        *place.lock().unwrap() = Some(silent.local_addr().unwrap());
+        let address = Address::default();
+        *address.lock().unwrap() = Some(silent.local_addr().unwrap());
         let settings = GroupSettings {
             patience: milliseconds(1000),
             ..GroupSettings::default()
         };
-        let third = Place::default();
+        let third = Address::default();
         let _third = cache(&third, data_of(9, 3, 25));
-        let places = [&place, &place, &third];
+        let addresses = [&address, &address, &third];
         let began = Stamp::now();
         let mut starts = Vec::new();
         let clients = |member: usize| {
             starts.push(Stamp::now());
-            client(places[member], options())
+            client(addresses[member], options())
         };
         let data = follow_with(settings, 3, clients, |member, event| {
             assert!(matches!(event, Event::Data { .. }) && member == 2);
@@ -252,18 +247,18 @@ fn silent_caches() {
 #[test]
 fn empty_answers() {
     in_time(|| {
-        let places = [Place::default(), Place::default()];
+        let addresses = [Address::default(), Address::default()];
         let empty = Data::new(2, SESSION, 7, None).unwrap();
-        let _first = cache(&places[0], empty.clone());
-        let _second = cache(&places[1], data_of(9, 3, 25));
+        let _first = cache(&addresses[0], empty.clone());
+        let _second = cache(&addresses[1], data_of(9, 3, 25));
         let mut failures = 0;
-        let data = until_second(GroupSettings::default(), &places, |event| match event {
+        let data = until_second(GroupSettings::default(), &addresses, |event| match event {
             Event::Failed(ClientError::Empty) => failures += 1,
             Event::Data { .. } => {}
             other => panic!("{other:?}"),
         });
         assert_eq!((data, failures), (data_of(9, 3, 25), 1));
-        let clients = |member: usize| client(&places[member], options());
+        let clients = |member: usize| client(&addresses[member], options());
         let alone = follow(1, clients, |_, event| {
             assert!(matches!(event, Event::Data { .. }));
             ControlFlow::Break(())
@@ -274,7 +269,7 @@ fn empty_answers() {
 
 /// A first cache that comes and goes, beside a second one that can't be reached.
 struct Restarts {
-    first: Place,
+    first: Address,
     server: Option<Server>,
     /// When each run of the second client dialed, by run.
     dials: Vec<Arc<Mutex<Vec<Instant>>>>,
@@ -329,7 +324,7 @@ impl Restarts {
 #[test]
 fn waits_that_go_on() {
     in_time(|| {
-        let first = Place::default();
+        let first = Address::default();
         let restarts = Mutex::new(Restarts {
             first: Arc::clone(&first),
             server: None,
@@ -365,9 +360,9 @@ fn too_many() {
 #[test]
 fn stopped() {
     in_time(|| {
-        let place = Place::default();
-        let _cache = cache(&place, data(5));
-        let first = client(&place, options());
+        let address = Address::default();
+        let _cache = cache(&address, data(5));
+        let first = client(&address, options());
         let clients = |_| Arc::clone(&first);
         let shown = follow(1, clients, |_, event| {
             assert!(matches!(event, Event::Data { .. }));

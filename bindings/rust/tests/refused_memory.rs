@@ -139,8 +139,8 @@ fn answers_without_memory() {
             let mut refused = 0;
             loop {
                 let mut router = asked();
-                let told = with_most(refused, || steps(&mut router, &answer, in_room));
-                match told.as_slice() {
+                let taken = with_most(refused, || steps(&mut router, &answer, in_room));
+                match taken.as_slice() {
                     [Step::Data(_)] => break,
                     [Step::Close, Step::Failed(error @ ClientError::NoMemory)] => {
                         assert_eq!(error.to_string(), "no memory");
@@ -161,8 +161,8 @@ fn answers_without_memory() {
 fn changes_without_memory() {
     for answer in answers() {
         let mut router = asked();
-        let told = steps(&mut router, &answer, true);
-        with_most(0, || match router.event(&told[0]) {
+        let taken = steps(&mut router, &answer, true);
+        with_most(0, || match router.event(&taken[0]) {
             Some(Event::Data { data, changes }) => {
                 assert_eq!((data.end().serial, data.len()), (2, data.units().count()));
                 assert!(changes.try_make().is_err());
@@ -172,7 +172,7 @@ fn changes_without_memory() {
             }
             other => panic!("{other:?}"),
         });
-        match &told[0] {
+        match &taken[0] {
             Step::Data(changes) => {
                 assert!(changes.try_make().is_ok());
                 assert_eq!(*changes, data(1).delta_to(&data(2)).unwrap());
@@ -187,7 +187,7 @@ fn changes_without_memory() {
 fn dropped_without_memory() {
     let mut router = asked();
     let expired = 7_200_000; // the expire time of the data
-    let mut told = Vec::with_capacity(4);
+    let mut taken = Vec::with_capacity(4);
     with_most(0, || loop {
         match router.next(expired) {
             Step::Wait | Step::Connect => break,
@@ -197,13 +197,13 @@ fn dropped_without_memory() {
                         assert_eq!((message, fields.len()), ("data dropped", 0));
                     });
                 }
-                told.push(step);
+                taken.push(step);
             }
         }
     });
     assert_eq!(router.data(), None);
     let none = Data::new(2, SESSION, 1, None).unwrap();
-    let dropped = told.iter().find_map(|step| match step {
+    let dropped = taken.iter().find_map(|step| match step {
         Step::Dropped(changes) => Some(changes),
         _ => None,
     });
@@ -222,22 +222,22 @@ fn others_without_memory() {
         let mut router = answered(data);
         (router.next(0), router.take_news())
     };
-    let (one, two) = (shown(&first), shown(&second));
+    let (first_shown, second_shown) = (shown(&first), shown(&second));
     let mut preferred = Preferred::new(2, None, 0).unwrap();
     preferred.tick(5000);
-    preferred.tell(5000, 1, one, Some(&first));
+    preferred.tell(5000, 1, first_shown, Some(&first));
     assert!(matches!(preferred.take_step(), Some((1, Step::Data(_)))));
     let (member, step) = with_most(0, || {
-        preferred.tell(5000, 0, two, Some(&second));
-        let told = preferred.take_step().expect("it is told");
-        match preferred.event(&told.1) {
+        preferred.tell(5000, 0, second_shown, Some(&second));
+        let taken = preferred.take_step().expect("it is told");
+        match preferred.event(&taken.1) {
             Some(Event::Data { data, changes }) => {
                 assert_eq!(data.end().session, 9);
                 assert!(changes.try_make().is_err());
             }
             other => panic!("{other:?}"),
         }
-        told
+        taken
     });
     assert_eq!(member, 0);
     match step {

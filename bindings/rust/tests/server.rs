@@ -351,7 +351,7 @@ fn clients_that_stall_or_reset() {
 #[test]
 fn slow_clients() {
     let _alone = alone();
-    let (server, told) = telling(limits());
+    let (server, endings) = telling(limits());
     let address = server.listen("127.0.0.1:0").unwrap();
     let cache = Cache { server, address };
     assert_eq!(cache.server.update(data_of(SESSION, 1, 20)), Ok(true));
@@ -365,7 +365,7 @@ fn slow_clients() {
         std::thread::sleep(milliseconds(100));
     }
     assert!(bytes.is_closed() && idle.is_closed() && nothing.is_closed());
-    for (why, ended) in told.iter().take(3) {
+    for (why, ended) in endings.iter().take(3) {
         assert_eq!(why, "the router is too slow");
         let slept = began.slept_until(ended);
         assert!(slept < milliseconds(3000), "it ended late: {slept:?}");
@@ -418,11 +418,11 @@ fn a_slow_reader() {
     let _alone = alone();
     let cache = Cache::new(options());
     let data = unbuffered();
-    let wanted = answer(&data, 2);
+    let expected = answer(&data, 2);
     assert_eq!(cache.server.update(data), Ok(true));
     let mut client = cache.client();
     client.send(&reset_query(2));
-    let mut came = vec![0; wanted.len()];
+    let mut came = vec![0; expected.len()];
     for (number, piece) in came.chunks_mut(1 << 20).enumerate() {
         // While this thread waits, so do the server's writes; some have written only a part.
         if number < 8 {
@@ -430,7 +430,7 @@ fn a_slow_reader() {
         }
         client.stream.read_exact(piece).unwrap();
     }
-    assert!(came == wanted, "other bytes came");
+    assert!(came == expected, "other bytes came");
 }
 
 /// At most the limit of clients is served; another one is served after one has left.
@@ -442,7 +442,7 @@ fn too_many_clients() {
         ..options()
     });
     assert_eq!(cache.server.update(data(1)), Ok(true));
-    let (mut one, two) = (cache.client(), cache.client());
+    let (mut staying, leaving) = (cache.client(), cache.client());
     assert!(holds(|| cache.server.clients() == 2));
     // A silent close would make routers try a lower version.
     let full = Some((ErrorCode::INTERNAL_ERROR, 2));
@@ -450,11 +450,11 @@ fn too_many_clients() {
     let mut asking = cache.client();
     asking.try_send(&reset_query(1));
     assert_eq!(asking.report(), full);
-    drop(two);
+    drop(leaving);
     assert!(holds(|| cache.server.clients() == 1));
     cache.serves(1);
-    one.send(&reset_query(2));
-    one.response();
+    staying.send(&reset_query(2));
+    staying.response();
 }
 
 /// While a callback keeps the server, hundreds of clients may connect, and are served after it.
@@ -556,16 +556,16 @@ fn stops() {
 fn reached(
     then: impl Fn(&mut Option<Server>) + Send + Sync + 'static,
 ) -> (Arc<Mutex<Option<Server>>>, Receiver<()>) {
-    let (sender, told) = channel();
+    let (sender, returns) = channel();
     let sender = Mutex::new(sender);
-    let place = Arc::new(Mutex::new(None));
-    let reached = Arc::clone(&place);
+    let shared = Arc::new(Mutex::new(None));
+    let reached = Arc::clone(&shared);
     let server = Server::telling(options(), move |_, _| {
         then(&mut reached.lock().unwrap());
         sender.lock().unwrap().send(()).unwrap();
     });
-    *place.lock().unwrap() = Some(server);
-    (place, told)
+    *shared.lock().unwrap() = Some(server);
+    (shared, returns)
 }
 
 /// A callback may stop its server, or drop it: the thread ends once it has returned, and other
@@ -578,14 +578,14 @@ fn stops_in_a_callback() {
         |server| drop(server.take()),
     ];
     for way in ways {
-        let (place, told) = reached(way);
+        let (shared, returns) = reached(way);
         let listen = |server: &Server| server.listen("127.0.0.1:0").unwrap();
-        let address = listen(place.lock().unwrap().as_ref().unwrap());
+        let address = listen(shared.lock().unwrap().as_ref().unwrap());
         let (mut other, mut faulty) = (Peer::connect(address), Peer::connect(address));
         faulty.send(&prefix(1, 7));
-        assert_eq!(told.recv_timeout(PATIENCE), Ok(()));
+        assert_eq!(returns.recv_timeout(PATIENCE), Ok(()));
         assert!(other.is_closed());
-        let server = place.lock().unwrap().take();
+        let server = shared.lock().unwrap().take();
         if let Some(server) = server {
             server.stop();
             assert_eq!(threads("rtr "), 0);
@@ -596,13 +596,13 @@ fn stops_in_a_callback() {
 
 /// A server, and the texts of why it ended connections, each with that moment of its thread.
 fn telling(options: ServerOptions) -> (Server, Receiver<(String, Stamp)>) {
-    let (sender, told) = channel();
+    let (sender, endings) = channel();
     let sender = Mutex::new(sender);
     let server = Server::telling(options, move |_, error| {
         let ended = (error.to_string(), Stamp::now());
         let _ = sender.lock().unwrap().send(ended);
     });
-    (server, told)
+    (server, endings)
 }
 
 /// In the middle of answers, a new session ends connections at once, and so do data of which a
@@ -614,7 +614,7 @@ fn answers_that_are_cut() {
         (SESSION, "the router is too far behind"),
         (7, "the data are of a new session"),
     ] {
-        let (server, told) = telling(options());
+        let (server, endings) = telling(options());
         let file = SavedFile::new("cut");
         server.save_to(&file.0).unwrap();
         let address = server.listen("127.0.0.1:0").unwrap();
@@ -626,10 +626,10 @@ fn answers_that_are_cut() {
         for serial in 2..=3 {
             server.update(data(serial)).unwrap();
         }
-        assert!(told.recv_timeout(milliseconds(300)).is_err());
+        assert!(endings.recv_timeout(milliseconds(300)).is_err());
         server.update(data_of(session, 4, 20)).unwrap();
         let updated = Stamp::of("rtr cache");
-        let (why, ended) = told.recv_timeout(PATIENCE).expect("it ends");
+        let (why, ended) = endings.recv_timeout(PATIENCE).expect("it ends");
         assert_eq!(why, text);
         let slept = updated.slept_until(ended);
         assert!(slept < milliseconds(500), "it ended late: {slept:?}");
@@ -682,7 +682,7 @@ fn no_thread_wakes_after_a_limit() {
 #[test]
 fn reasons() {
     let _alone = alone();
-    let (server, told) = telling(ServerOptions {
+    let (server, endings) = telling(ServerOptions {
         connections: 1,
         idle: PATIENCE,
         ..limits()
@@ -697,7 +697,7 @@ fn reasons() {
     drop(going);
     assert!(holds(|| server.clients() == 0));
     let long = [2, 9, 1, 0, 0xff, 0xff, 0xff, 0xff];
-    let why = || told.recv_timeout(PATIENCE).expect("it ends").0;
+    let why = || endings.recv_timeout(PATIENCE).expect("it ends").0;
     let rows: [(&[u8], &str); 7] = [
         (&[], "the router is too slow"),
         (&long, "unit is longer than 65535 bytes, at byte 0"),
@@ -717,16 +717,16 @@ fn reasons() {
         drop(client);
         assert!(holds(|| server.clients() == 0));
     }
-    let mut one = Peer::connect(address);
-    one.send(&reset_query(2));
-    one.response();
+    let mut served = Peer::connect(address);
+    served.send(&reset_query(2));
+    served.response();
     assert!(Peer::connect(address).report().is_some());
     assert_eq!(why(), "too many connections");
     server.update(data_of(7, 1, 20)).unwrap();
-    assert!(one.is_closed());
+    assert!(served.is_closed());
     assert_eq!(why(), "the data are of a new session");
     drop(server);
-    assert!(told.recv_timeout(milliseconds(10)).is_err());
+    assert!(endings.recv_timeout(milliseconds(10)).is_err());
 }
 
 /// IPv6, and two addresses at once.

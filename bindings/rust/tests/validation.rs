@@ -11,7 +11,7 @@ use std::process::Command;
 
 /// A VRP that covers a route, as it was computed.
 #[derive(Debug)]
-struct Wanted {
+struct Cover {
     place: usize,
     asn: u32,
     length: u8,
@@ -23,7 +23,7 @@ struct Wanted {
 struct Row {
     route: Route,
     validity: Validity,
-    covering: Vec<Wanted>,
+    covering: Vec<Cover>,
 }
 
 /// The bytes of the tables, or none without python3 to compute them.
@@ -37,8 +37,8 @@ fn bytes_of_tables() -> Option<Vec<u8>> {
     );
     match Command::new("python3").arg(script).output() {
         Ok(output) => {
-            let said = String::from_utf8_lossy(&output.stderr);
-            assert!(output.status.success(), "{said}");
+            let errors = String::from_utf8_lossy(&output.stderr);
+            assert!(output.status.success(), "{errors}");
             Some(output.stdout)
         }
         Err(error) if error.kind() == std::io::ErrorKind::NotFound => {
@@ -81,15 +81,15 @@ impl<'a> Bytes<'a> {
         Row {
             route: Route::new(address, length, asn).expect("its length is in range"),
             validity: validities[usize::from(validity)],
-            covering: (0..count).map(|_| self.wanted()).collect(),
+            covering: (0..count).map(|_| self.cover()).collect(),
         }
     }
 
-    fn wanted(&mut self) -> Wanted {
+    fn cover(&mut self) -> Cover {
         let (place, asn) = (self.number() as usize, self.number());
         let (length, max_length, mismatch) = (self.byte(), self.byte(), self.byte());
         self.byte();
-        Wanted {
+        Cover {
             place,
             asn,
             length,
@@ -131,15 +131,15 @@ fn for_each_table(mut check: impl FnMut(&Data, &[IpAddr], &[Row])) {
 fn check_row(data: &Data, addresses: &[IpAddr], row: &Row) {
     assert_eq!(data.validate(&row.route), row.validity, "{}", row.route);
     let mut covering = data.covering(&row.route);
-    for wanted in &row.covering {
+    for cover in &row.covering {
         let vrp: Vrp = covering.next().expect("one more covers");
         let got = (vrp.place, vrp.asn, vrp.length, vrp.max_length, vrp.mismatch);
         let all = (
-            wanted.place,
-            wanted.asn,
-            wanted.length,
-            wanted.max_length,
-            wanted.mismatch,
+            cover.place,
+            cover.asn,
+            cover.length,
+            cover.max_length,
+            cover.mismatch,
         );
         assert_eq!(got, all, "{}", row.route);
         assert_eq!(vrp.address, addresses[vrp.place]);
@@ -177,10 +177,10 @@ fn slices() {
 /// `validate_all` of data and of tables returns the validities of these rows.
 fn check_all(data: &Data, rows: &[&Row]) {
     let routes: Vec<Route> = rows.iter().map(|row| row.route).collect();
-    let wanted: Vec<Validity> = rows.iter().map(|row| row.validity).collect();
-    assert_eq!(data.validate_all(&routes), wanted);
+    let expected: Vec<Validity> = rows.iter().map(|row| row.validity).collect();
+    assert_eq!(data.validate_all(&routes), expected);
     let tables = Tables::of(data.as_bytes()).expect("they are data");
-    assert_eq!(tables.validate_all(&routes), wanted);
+    assert_eq!(tables.validate_all(&routes), expected);
 }
 
 /// The validities of routes don't depend on their order, on how often each comes, nor on how many

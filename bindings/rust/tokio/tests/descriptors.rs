@@ -44,11 +44,11 @@ async fn is_served_later(address: SocketAddr) {
     let slept = began.slept_until(Stamp::now());
     assert!(slept > milliseconds(10), "it slept {slept:?}");
     client.write_all(&reset_query(2)).await.unwrap();
-    let wanted = answer(&data(1), 2);
-    let mut came = vec![0; wanted.len()];
+    let expected = answer(&data(1), 2);
+    let mut came = vec![0; expected.len()];
     let read = timeout(PATIENCE, client.read_exact(&mut came)).await;
     read.expect("it is served").unwrap();
-    assert_eq!(came, wanted);
+    assert_eq!(came, expected);
 }
 
 /// A client that takes the last descriptor gets a report instead of data, and one that comes later

@@ -23,7 +23,7 @@ use tokio::time::{sleep, timeout, Instant};
 
 /// A server with data for this many clients, and the texts of why it ended connections.
 fn telling(connections: usize) -> (AsyncServer, Receiver<String>) {
-    let (sender, told) = channel();
+    let (sender, endings) = channel();
     let sender = Mutex::new(sender);
     let options = ServerOptions {
         connections,
@@ -33,7 +33,7 @@ fn telling(connections: usize) -> (AsyncServer, Receiver<String>) {
         let _ = sender.lock().unwrap().send(error.to_string());
     });
     assert_eq!(server.update(data(1)), Ok(true));
-    (server, told)
+    (server, endings)
 }
 
 fn from() -> SocketAddr {
@@ -51,10 +51,10 @@ fn connect(server: &AsyncServer) -> (DuplexStream, JoinHandle<()>) {
 /// Checks that a client asks for all data and gets them.
 async fn is_served(client: &mut (impl AsyncReadExt + AsyncWriteExt + Unpin)) {
     client.write_all(&reset_query(2)).await.unwrap();
-    let wanted = answer(&data(1), 2);
-    let mut came = vec![0; wanted.len()];
+    let expected = answer(&data(1), 2);
+    let mut came = vec![0; expected.len()];
     client.read_exact(&mut came).await.unwrap();
-    assert_eq!(came, wanted);
+    assert_eq!(came, expected);
 }
 
 /// The code of the report that comes, after which nothing comes.
@@ -69,21 +69,21 @@ async fn report(client: &mut (impl AsyncReadExt + Unpin)) -> ErrorCode {
 
 /// A client that is served, and 64 that are refused, at a server for one.
 async fn full(server: &AsyncServer) -> (DuplexStream, Vec<DuplexStream>) {
-    let (mut one, _) = connect(server);
-    is_served(&mut one).await;
+    let (mut served, _) = connect(server);
+    is_served(&mut served).await;
     let mut refused: Vec<_> = (0..64).map(|_| connect(server).0).collect();
     for client in &mut refused {
         assert_eq!(report(client).await, ErrorCode::INTERNAL_ERROR);
     }
-    (one, refused)
+    (served, refused)
 }
 
 /// A listener leaves clients waiting while the server is full, and accepts one when a connection
 /// was closed, also one that the program accepted.
 #[tokio::test]
 async fn a_listener_that_waits() {
-    let (server, _told) = telling(1);
-    let (one, mut refused) = full(&server).await;
+    let (server, _endings) = telling(1);
+    let (served, mut refused) = full(&server).await;
     let listener = TcpListener::bind("127.0.0.1:0").await.unwrap();
     let address = listener.local_addr().unwrap();
     let serving = server.clone();
@@ -98,7 +98,7 @@ async fn a_listener_that_waits() {
     let mut waiting = TcpStream::connect(address).await.unwrap();
     let read = timeout(milliseconds(500), waiting.read_u8()).await;
     assert!(read.is_err(), "it isn't accepted");
-    drop(one);
+    drop(served);
     timeout(peers::PATIENCE, is_served(&mut waiting))
         .await
         .expect("it is served");
@@ -110,7 +110,7 @@ async fn a_listener_that_waits() {
 /// A future that serves closes its connections when it is dropped.
 #[tokio::test]
 async fn a_listener_that_is_dropped() {
-    let (server, _told) = telling(1);
+    let (server, _endings) = telling(1);
     let listener = TcpListener::bind("127.0.0.1:0").await.unwrap();
     let address = listener.local_addr().unwrap();
     let serving = server.clone();
@@ -127,7 +127,7 @@ async fn a_listener_that_is_dropped() {
 /// no Nagle delay.
 #[tokio::test(start_paused = true)]
 async fn a_connection_that_is_prepared() {
-    let (server, told) = telling(1);
+    let (server, endings) = telling(1);
     let listener = TcpListener::bind("127.0.0.1:0").await.unwrap();
     let address = listener.local_addr().unwrap();
     let serving = server.clone();
@@ -148,7 +148,7 @@ async fn a_connection_that_is_prepared() {
     assert!(has_no_delay.unwrap());
     let time = began.elapsed();
     assert!((30_000..30_010).contains(&time.as_millis()), "{time:?}");
-    assert_eq!(told.try_recv().as_deref(), Ok("the router is too slow"));
+    assert_eq!(endings.try_recv().as_deref(), Ok("the router is too slow"));
     server.stop();
     listening.await.unwrap().unwrap();
 }
@@ -156,15 +156,15 @@ async fn a_connection_that_is_prepared() {
 /// A connection that a program accepted is closed without a report if too many are refused.
 #[tokio::test(start_paused = true)]
 async fn connections_that_are_handed_over() {
-    let (server, told) = telling(1);
+    let (server, endings) = telling(1);
     let (_one, mut refused) = full(&server).await;
     let (mut client, serving) = connect(&server);
     serving.await.unwrap();
     assert_eq!(client.read(&mut [0]).await.unwrap(), 0);
     for _ in 0..=64 {
-        assert_eq!(told.try_recv().as_deref(), Ok("too many connections"));
+        assert_eq!(endings.try_recv().as_deref(), Ok("too many connections"));
     }
-    assert!(told.try_recv().is_err());
+    assert!(endings.try_recv().is_err());
     assert_eq!(server.clients(), 1);
     drop(refused.pop());
     sleep(milliseconds(1)).await;
@@ -177,7 +177,7 @@ async fn connections_that_are_handed_over() {
 /// A client that ended with a report has 10 seconds to close, and counts until then.
 #[tokio::test(start_paused = true)]
 async fn a_client_that_lingers() {
-    let (server, told) = telling(1);
+    let (server, endings) = telling(1);
     let (mut client, serving) = connect(&server);
     client.write_all(&prefix(1, 7)).await.unwrap();
     let began = Instant::now();
@@ -196,8 +196,8 @@ async fn a_client_that_lingers() {
     );
     assert!(client.write_all(&reset_query(2)).await.is_err());
     assert_eq!(server.clients(), 0);
-    assert_eq!(told.try_recv().as_deref(), Ok("unit is not a query"));
-    assert!(told.try_recv().is_err());
+    assert_eq!(endings.try_recv().as_deref(), Ok("unit is not a query"));
+    assert!(endings.try_recv().is_err());
 }
 
 /// A report that a stream holds reaches a client that has closed; one that doesn't read has 10
@@ -205,7 +205,7 @@ async fn a_client_that_lingers() {
 #[tokio::test(start_paused = true)]
 async fn a_report_that_is_held() {
     for reads in [true, false] {
-        let (server, _told) = telling(1);
+        let (server, _endings) = telling(1);
         let (mut client, other) = duplex(16);
         let held = BufStream::new(other);
         let serving = tokio::spawn(async move { server.serve_connection(held, from()).await });
@@ -244,9 +244,9 @@ impl AsyncRead for Failing {
     fn poll_read(
         mut self: Pin<&mut Self>,
         cx: &mut Context<'_>,
-        room: &mut ReadBuf<'_>,
+        buffer: &mut ReadBuf<'_>,
     ) -> Poll<io::Result<()>> {
-        Pin::new(&mut self.stream).poll_read(cx, room)
+        Pin::new(&mut self.stream).poll_read(cx, buffer)
     }
 }
 
@@ -277,7 +277,7 @@ impl AsyncWrite for Failing {
 #[tokio::test(start_paused = true)]
 async fn streams_that_fail() {
     for (takes, kind) in [(false, ErrorKind::WriteZero), (true, ErrorKind::BrokenPipe)] {
-        let (server, told) = telling(1);
+        let (server, endings) = telling(1);
         let (mut client, stream) = duplex(1024);
         client.write_all(&reset_query(2)).await.unwrap();
         let (count, error) = (0, io::Error::from(kind));
@@ -287,8 +287,8 @@ async fn streams_that_fail() {
             count,
         };
         server.serve_connection(failing, from()).await;
-        assert_eq!(told.try_recv(), Ok(error.to_string()));
-        assert!(told.try_recv().is_err());
+        assert_eq!(endings.try_recv(), Ok(error.to_string()));
+        assert!(endings.try_recv().is_err());
         assert_eq!(server.clients(), 0);
     }
 }

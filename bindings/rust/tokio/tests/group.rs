@@ -19,17 +19,17 @@ use tokio::time::{timeout, Instant};
 
 /// How a cache answers a client that connects.
 #[derive(Clone)]
-enum Place {
+enum Listener {
     Refuses,
     /// No connection is made.
     Stalls,
     Serves(AsyncServer),
 }
 
-type Shared = Arc<Mutex<Place>>;
+type Shared = Arc<Mutex<Listener>>;
 
-fn place(place: Place) -> Shared {
-    Arc::new(Mutex::new(place))
+fn listener(listener: Listener) -> Shared {
+    Arc::new(Mutex::new(listener))
 }
 
 fn cache(data: Data) -> AsyncServer {
@@ -38,11 +38,11 @@ fn cache(data: Data) -> AsyncServer {
     server
 }
 
-async fn dial(place: Place) -> io::Result<DuplexStream> {
-    match place {
-        Place::Refuses => Err(ErrorKind::ConnectionRefused.into()),
-        Place::Stalls => pending().await,
-        Place::Serves(server) => {
+async fn dial(listener: Listener) -> io::Result<DuplexStream> {
+    match listener {
+        Listener::Refuses => Err(ErrorKind::ConnectionRefused.into()),
+        Listener::Stalls => pending().await,
+        Listener::Serves(server) => {
             let (client, stream) = duplex(100);
             let from = SocketAddr::from((Ipv4Addr::LOCALHOST, 0));
             tokio::spawn(async move { server.serve_connection(stream, from).await });
@@ -51,13 +51,13 @@ async fn dial(place: Place) -> io::Result<DuplexStream> {
     }
 }
 
-fn client(place: &Shared) -> AsyncClient<DuplexStream> {
-    let place = Arc::clone(place);
+fn client(listener: &Shared) -> AsyncClient<DuplexStream> {
+    let listener = Arc::clone(listener);
     let options = ClientOptions {
         version: 2,
         ..ClientOptions::default()
     };
-    AsyncClient::with_random(options, 0, move || dial(place.lock().unwrap().clone()))
+    AsyncClient::with_random(options, 0, move || dial(listener.lock().unwrap().clone()))
 }
 
 /// The next event with data: the member, the data and what changed. Failures are counted.
@@ -80,10 +80,10 @@ async fn shown(
 /// changes lead from the data of one to those of the other, even if their sessions differ.
 #[tokio::test(start_paused = true)]
 async fn the_first_that_answers() {
-    let (first, second) = (place(Place::Refuses), data_of(9, 3, 25));
+    let (first, second) = (listener(Listener::Refuses), data_of(9, 3, 25));
     let backup = cache(second.clone());
-    let places = [&first, &place(Place::Serves(backup.clone()))];
-    let mut group = AsyncGroup::new(places.map(client)).unwrap();
+    let listeners = [&first, &listener(Listener::Serves(backup.clone()))];
+    let mut group = AsyncGroup::new(listeners.map(client)).unwrap();
     assert_eq!(group.data(), None);
     let mut failures = Vec::new();
     let (member, data, changes) = shown(&mut group, &mut failures).await;
@@ -96,7 +96,7 @@ async fn the_first_that_answers() {
     );
     for serial in [7, 8] {
         let server = cache(data_of(SESSION, serial, 30));
-        *first.lock().unwrap() = Place::Serves(server.clone());
+        *first.lock().unwrap() = Listener::Serves(server.clone());
         let (member, data, changes) = shown(&mut group, &mut failures).await;
         assert_eq!((member, data.end().serial), (0, serial));
         let old = second.numbered(SESSION, serial);
@@ -105,7 +105,7 @@ async fn the_first_that_answers() {
         assert_eq!(backup.clients(), 1);
         assert!(timeout(Duration::from_secs(1), group.next()).await.is_err());
         assert_eq!((backup.clients(), server.clients()), (0, 1));
-        *first.lock().unwrap() = Place::Refuses;
+        *first.lock().unwrap() = Listener::Refuses;
         server.stop();
         let (member, data, changes) = shown(&mut group, &mut failures).await;
         assert_eq!((member, &data), (1, &second));
@@ -121,13 +121,13 @@ async fn the_first_that_answers() {
 /// All caches after one that answers are left.
 #[tokio::test(start_paused = true)]
 async fn all_that_are_left() {
-    let (first, last) = (place(Place::Refuses), cache(data_of(9, 3, 25)));
-    let others = [Place::Refuses, Place::Serves(last.clone())].map(place);
-    let places = [&first, &others[0], &others[1]];
-    let mut group = AsyncGroup::new(places.map(client)).unwrap();
+    let (first, last) = (listener(Listener::Refuses), cache(data_of(9, 3, 25)));
+    let others = [Listener::Refuses, Listener::Serves(last.clone())].map(listener);
+    let listeners = [&first, &others[0], &others[1]];
+    let mut group = AsyncGroup::new(listeners.map(client)).unwrap();
     let mut failures = Vec::new();
     assert_eq!(shown(&mut group, &mut failures).await.0, 2);
-    *first.lock().unwrap() = Place::Serves(cache(data(1)));
+    *first.lock().unwrap() = Listener::Serves(cache(data(1)));
     assert_eq!(shown(&mut group, &mut failures).await.0, 0);
     // The next call of the group leaves them.
     assert_eq!(last.clients(), 1);
@@ -139,15 +139,15 @@ async fn all_that_are_left() {
 #[tokio::test(start_paused = true)]
 async fn a_silent_cache() {
     let second = data_of(9, 3, 25);
-    let places = [
-        place(Place::Stalls),
-        place(Place::Serves(cache(second.clone()))),
+    let listeners = [
+        listener(Listener::Stalls),
+        listener(Listener::Serves(cache(second.clone()))),
     ];
     let settings = GroupSettings {
         patience: Duration::from_millis(700),
         ..GroupSettings::default()
     };
-    let mut group = AsyncGroup::with_settings(settings, places.iter().map(client)).unwrap();
+    let mut group = AsyncGroup::with_settings(settings, listeners.iter().map(client)).unwrap();
     let began = Instant::now();
     let (member, data, _) = shown(&mut group, &mut Vec::new()).await;
     assert_eq!((member, data), (1, second));
@@ -159,15 +159,16 @@ async fn a_silent_cache() {
 async fn empty_answers() {
     let empty = Data::new(2, SESSION, 7, None).unwrap();
     let second = data_of(9, 3, 25);
-    let places = [empty.clone(), second.clone()].map(|data| place(Place::Serves(cache(data))));
-    let mut group = AsyncGroup::new(places.iter().map(client)).unwrap();
+    let listeners =
+        [empty.clone(), second.clone()].map(|data| listener(Listener::Serves(cache(data))));
+    let mut group = AsyncGroup::new(listeners.iter().map(client)).unwrap();
     assert!(matches!(
         group.next().await,
         (0, Event::Failed(ClientError::Empty))
     ));
     let (member, data, _) = shown(&mut group, &mut Vec::new()).await;
     assert_eq!((member, data), (1, second));
-    let mut alone = AsyncGroup::new([client(&places[0])]).unwrap();
+    let mut alone = AsyncGroup::new([client(&listeners[0])]).unwrap();
     let (member, data, changes) = shown(&mut alone, &mut Vec::new()).await;
     assert_eq!((member, data, changes.len()), (0, empty, 0));
 }
@@ -175,14 +176,14 @@ async fn empty_answers() {
 /// Data that expire while no cache answers are dropped.
 #[tokio::test(start_paused = true)]
 async fn expired() {
-    let (first, data) = (place(Place::Refuses), data(5));
+    let (first, data) = (listener(Listener::Refuses), data(5));
     let server = cache(data.clone());
-    *first.lock().unwrap() = Place::Serves(server.clone());
-    let places = [first, place(Place::Refuses)];
-    let mut group = AsyncGroup::new(places.iter().map(client)).unwrap();
+    *first.lock().unwrap() = Listener::Serves(server.clone());
+    let listeners = [first, listener(Listener::Refuses)];
+    let mut group = AsyncGroup::new(listeners.iter().map(client)).unwrap();
     shown(&mut group, &mut Vec::new()).await;
     let began = Instant::now();
-    *places[0].lock().unwrap() = Place::Refuses;
+    *listeners[0].lock().unwrap() = Listener::Refuses;
     server.stop();
     loop {
         match group.next().await {
@@ -201,8 +202,8 @@ async fn expired() {
 /// Nobody sees data that have expired, also where the group didn't go on.
 #[tokio::test(start_paused = true)]
 async fn expired_while_nothing_runs() {
-    let places = [place(Place::Serves(cache(data(5))))];
-    let mut group = AsyncGroup::new(places.iter().map(client)).unwrap();
+    let listeners = [listener(Listener::Serves(cache(data(5))))];
+    let mut group = AsyncGroup::new(listeners.iter().map(client)).unwrap();
     shown(&mut group, &mut Vec::new()).await;
     tokio::time::advance(milliseconds(7_199_000)).await;
     assert_eq!(group.data(), Some((0, &data(5))));
@@ -219,8 +220,11 @@ async fn requests() {
     };
     let server = AsyncServer::new(options);
     server.update(data_of(9, 1, 20)).unwrap();
-    let places = [place(Place::Refuses), place(Place::Serves(server.clone()))];
-    let mut group = AsyncGroup::new(places.iter().map(client)).unwrap();
+    let listeners = [
+        listener(Listener::Refuses),
+        listener(Listener::Serves(server.clone())),
+    ];
+    let mut group = AsyncGroup::new(listeners.iter().map(client)).unwrap();
     shown(&mut group, &mut Vec::new()).await;
     // A notify announces the second data, and none comes within the next hour.
     server.update(data_of(9, 2, 20)).unwrap();
@@ -254,8 +258,11 @@ impl Future for Dropping<'_> {
 #[tokio::test(start_paused = true)]
 async fn futures_that_are_dropped() {
     let server = cache(data_of(9, 1, 500));
-    let places = [place(Place::Refuses), place(Place::Serves(server.clone()))];
-    let mut group = AsyncGroup::new(places.iter().map(client)).unwrap();
+    let listeners = [
+        listener(Listener::Refuses),
+        listener(Listener::Serves(server.clone())),
+    ];
+    let mut group = AsyncGroup::new(listeners.iter().map(client)).unwrap();
     for serial in 1..=5 {
         server.update(data_of(9, serial, 500)).unwrap();
         group.ask_now();
@@ -269,7 +276,7 @@ async fn futures_that_are_dropped() {
 /// next one is four times as long.
 #[tokio::test(start_paused = true)]
 async fn waits_that_go_on() {
-    let first = place(Place::Refuses);
+    let first = listener(Listener::Refuses);
     let often = ClientOptions {
         pause: milliseconds(5),
         retry: Some(milliseconds(20)),
@@ -282,7 +289,7 @@ async fn waits_that_go_on() {
     let dialed = Arc::clone(&dials);
     let refused = AsyncClient::with_random(ClientOptions::default(), 0, move || {
         dialed.lock().unwrap().push(Instant::now());
-        dial(Place::Refuses)
+        dial(Listener::Refuses)
     });
     let mut group = AsyncGroup::new([returning, refused]).unwrap();
     for (serial, seconds) in [(5, 1), (6, 4), (7, 16)] {
@@ -292,9 +299,9 @@ async fn waits_that_go_on() {
         let times = std::mem::take(&mut *dials.lock().unwrap());
         assert_eq!(times[1] - times[0], Duration::from_secs(seconds));
         let server = cache(data(serial));
-        *first.lock().unwrap() = Place::Serves(server.clone());
+        *first.lock().unwrap() = Listener::Serves(server.clone());
         assert_eq!(shown(&mut group, &mut Vec::new()).await.0, 0);
-        *first.lock().unwrap() = Place::Refuses;
+        *first.lock().unwrap() = Listener::Refuses;
         server.stop();
     }
 }
@@ -302,7 +309,7 @@ async fn waits_that_go_on() {
 /// Too many caches are refused; without any nothing happens.
 #[tokio::test(start_paused = true)]
 async fn how_many() {
-    let clients = (0..=Group::MOST).map(|_| client(&place(Place::Refuses)));
+    let clients = (0..=Group::MOST).map(|_| client(&listener(Listener::Refuses)));
     assert_eq!(AsyncGroup::new(clients).err(), Some(TooManyMembers));
     let mut none = AsyncGroup::new(std::iter::empty::<AsyncClient<DuplexStream>>()).unwrap();
     assert!(timeout(HOUR, none.next()).await.is_err());

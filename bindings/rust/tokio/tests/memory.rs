@@ -40,11 +40,11 @@ static ALLOCATOR: Counted = Counted;
 
 /// Serves this many clients, one after the other.
 async fn serve(server: &AsyncServer, address: SocketAddr, count: usize) {
-    let mut wanted = answer(&data(1), 2);
+    let mut came = answer(&data(1), 2);
     for _ in 0..count {
         let mut client = TcpStream::connect(address).await.unwrap();
         client.write_all(&reset_query(2)).await.unwrap();
-        client.read_exact(&mut wanted).await.unwrap();
+        client.read_exact(&mut came).await.unwrap();
     }
     while server.clients() > 0 {
         sleep(milliseconds(1)).await;

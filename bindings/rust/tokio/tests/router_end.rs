@@ -62,14 +62,14 @@ impl RouterEnd {
     fn begin(&self) -> AsyncClient<Wire> {
         let (world, dialing) = (Arc::clone(&self.world), Arc::clone(&self.dialing));
         AsyncClient::with_random(self.options.clone(), self.chance, move || {
-            let (sender, made) = oneshot::channel();
+            let (sender, outcome) = oneshot::channel();
             *dialing.lock().unwrap() = Some(sender);
             world.lock().unwrap().does("connects");
             world.lock().unwrap().opens();
             let wire = Wire(Arc::clone(&world));
             async move {
-                let made = made.await.expect("the cache answers");
-                made.map(|()| wire)
+                let outcome = outcome.await.expect("the cache answers");
+                outcome.map(|()| wire)
             }
         })
     }
@@ -90,14 +90,14 @@ impl RouterEnd {
 
     /// Carries out a step of the cache or the caller.
     fn take_step(&mut self, step: &str, words: &[&str]) {
-        let made = match words {
+        let outcome = match words {
             ["accepts"] => Ok(()),
             ["refuses"] => Err(ErrorKind::ConnectionRefused.into()),
             ["asks"] => return self.client.as_mut().expect("a client").ask_now(),
             _ => return self.world.lock().unwrap().take_step(step, words),
         };
         let dialing = self.dialing.lock().unwrap().take();
-        let _ = dialing.expect("the client connects").send(made);
+        let _ = dialing.expect("the client connects").send(outcome);
     }
 
     /// Carries out a line, and returns the answer, if it has a time: when the client wakes isn't

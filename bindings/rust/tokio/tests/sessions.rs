@@ -151,7 +151,7 @@ impl Log {
     }
 }
 
-fn wanted(serial: u32, version: u8) -> Data {
+fn data_in(serial: u32, version: u8) -> Data {
     data(serial).for_version(version).unwrap()
 }
 
@@ -174,8 +174,8 @@ fn a_server_in_a_thread() {
                     let event = timeout(PATIENCE, client.next()).await;
                     came = log.serial(&event.expect("data come"));
                 }
-                assert_eq!(client.data(), Some(&wanted(serial, version)));
-                assert_eq!(client.fetch().await.unwrap(), wanted(serial, version));
+                assert_eq!(client.data(), Some(&data_in(serial, version)));
+                assert_eq!(client.fetch().await.unwrap(), data_in(serial, version));
             }
         });
     }
@@ -215,7 +215,7 @@ fn a_client_in_a_thread() {
             drop(done);
             last
         });
-        assert_eq!(last, Some(wanted(first + 3, version)));
+        assert_eq!(last, Some(data_in(first + 3, version)));
     }
 }
 
@@ -240,15 +240,15 @@ impl AsyncRead for Trickle {
     fn poll_read(
         mut self: Pin<&mut Self>,
         cx: &mut Context<'_>,
-        room: &mut ReadBuf<'_>,
+        buffer: &mut ReadBuf<'_>,
     ) -> Poll<io::Result<()>> {
         if self.waits(0, cx) {
             return Poll::Pending;
         }
         let mut byte = [0];
-        let mut one = ReadBuf::new(&mut byte);
-        let read = Pin::new(&mut self.stream).poll_read(cx, &mut one);
-        room.put_slice(one.filled());
+        let mut front = ReadBuf::new(&mut byte);
+        let read = Pin::new(&mut self.stream).poll_read(cx, &mut front);
+        buffer.put_slice(front.filled());
         read
     }
 }
@@ -342,7 +342,7 @@ fn futures_that_are_dropped() {
                     drops: &mut drops,
                 };
                 assert_eq!(timeout(PATIENCE, next).await, Ok(serial));
-                assert_eq!(client.data(), Some(&wanted(serial, version)));
+                assert_eq!(client.data(), Some(&data_in(serial, version)));
             }
             assert_eq!(server.clients(), 1);
             drop(client);
@@ -421,28 +421,28 @@ fn too_many_clients() {
         ..server_options()
     }));
     host.server.update(data(1)).unwrap();
-    let (mut one, two) = (Peer::connect(host.address), Peer::connect(host.address));
+    let (mut staying, leaving) = (Peer::connect(host.address), Peer::connect(host.address));
     assert!(holds(|| host.server.clients() == 2));
     let full = Some((ErrorCode::INTERNAL_ERROR, 2));
     assert_eq!(Peer::connect(host.address).report(), full);
     let mut asking = Peer::connect(host.address);
     asking.try_send(&reset_query(1));
     assert_eq!(asking.report(), full);
-    drop(two);
+    drop(leaving);
     assert!(holds(|| host.server.clients() == 1));
     host.serves(1);
-    one.send(&reset_query(2));
-    one.response();
+    staying.send(&reset_query(2));
+    staying.response();
 }
 
 /// A server, and the texts of why it ended connections.
 fn telling(options: ServerOptions) -> (AsyncServer, Receiver<String>) {
-    let (sender, told) = channel();
+    let (sender, endings) = channel();
     let sender = Mutex::new(sender);
     let ended = move |_, error: &ServerError| {
         let _ = sender.lock().unwrap().send(error.to_string());
     };
-    (AsyncServer::telling(options, ended), told)
+    (AsyncServer::telling(options, ended), endings)
 }
 
 /// Clients that stall are ended by the limits: before they ask, inside a unit, while they don't
@@ -450,7 +450,7 @@ fn telling(options: ServerOptions) -> (AsyncServer, Receiver<String>) {
 #[test]
 fn clients_that_stall() {
     let _alone = alone();
-    let (server, told) = telling(server_limits());
+    let (server, endings) = telling(server_limits());
     let host = Host::new(server);
     host.server.update(data(1)).unwrap();
     let slow = Ok("the router is too slow");
@@ -459,7 +459,7 @@ fn clients_that_stall() {
     inside.send(&[2, 2]);
     host.serves(1);
     for _ in 0..2 {
-        assert_eq!(told.recv_timeout(PATIENCE).as_deref(), slow);
+        assert_eq!(endings.recv_timeout(PATIENCE).as_deref(), slow);
     }
     drop(silent);
     let large = data_of(SESSION, 2, u16::MAX);
@@ -475,7 +475,7 @@ fn clients_that_stall() {
         assert!(reading.bytes(answer.len()) == answer, "other bytes came");
     }
     for _ in 0..4 {
-        assert_eq!(told.recv_timeout(PATIENCE).as_deref(), slow);
+        assert_eq!(endings.recv_timeout(PATIENCE).as_deref(), slow);
     }
     drop(reading);
     assert!(holds(|| host.server.clients() == 0));
@@ -502,13 +502,13 @@ fn a_client_that_waits() {
 #[test]
 fn handshakes_that_stall() {
     let _alone = alone();
-    let (server, told) = telling(server_limits());
+    let (server, endings) = telling(server_limits());
     let host = Host::with(server, true);
     let began = Instant::now();
     let mut clients: Vec<Peer> = (0..3).map(|_| Peer::connect(host.address)).collect();
     assert!(holds(|| host.server.clients() == 3));
     for _ in 0..3 {
-        let text = told.recv_timeout(PATIENCE);
+        let text = endings.recv_timeout(PATIENCE);
         assert_eq!(text.as_deref(), Ok("the router is too slow"));
     }
     assert!(began.elapsed() >= milliseconds(1900), "they ended early");
@@ -525,7 +525,7 @@ fn answers_that_are_cut() {
         (SESSION, "the router is too far behind"),
         (7, "the data are of a new session"),
     ] {
-        let (server, told) = telling(server_options());
+        let (server, endings) = telling(server_options());
         let host = Host::new(server);
         host.server.update(unbuffered()).unwrap();
         // It is in the middle of an answer, most of which waits for the client.
@@ -535,12 +535,12 @@ fn answers_that_are_cut() {
         for serial in 2..=3 {
             host.server.update(data(serial)).unwrap();
         }
-        assert!(told.recv_timeout(milliseconds(300)).is_err());
+        assert!(endings.recv_timeout(milliseconds(300)).is_err());
         if session != SESSION {
             host.server.change_session();
         }
         host.server.update(data_of(session, 4, 20)).unwrap();
-        assert_eq!(told.recv_timeout(PATIENCE).as_deref(), Ok(text));
+        assert_eq!(endings.recv_timeout(PATIENCE).as_deref(), Ok(text));
         assert!(holds(|| host.server.clients() == 0));
     }
 }

@@ -49,23 +49,25 @@ fn certificate(
         Some(_) => name("peer"),
         None => name("authority"),
     };
-    let mut made = X509::builder().unwrap();
-    made.set_version(2).unwrap();
+    let mut builder = X509::builder().unwrap();
+    builder.set_version(2).unwrap();
     let serial = BigNum::from_u32(u32::try_from(from).unwrap()).unwrap();
-    made.set_serial_number(&serial.to_asn1_integer().unwrap())
+    builder
+        .set_serial_number(&serial.to_asn1_integer().unwrap())
         .unwrap();
-    made.set_subject_name(&subject).unwrap();
+    builder.set_subject_name(&subject).unwrap();
     let issuer = by.map_or(&*subject, |by| by.certificate.subject_name());
-    made.set_issuer_name(issuer).unwrap();
+    builder.set_issuer_name(issuer).unwrap();
     let time = |time| Asn1Time::from_unix(time).unwrap();
-    made.set_not_before(&time(from)).unwrap();
-    made.set_not_after(&time(from + 3600)).unwrap();
-    made.set_pubkey(key).unwrap();
+    builder.set_not_before(&time(from)).unwrap();
+    builder.set_not_after(&time(from + 3600)).unwrap();
+    builder.set_pubkey(key).unwrap();
     let mut constraints = BasicConstraints::new();
     if names.is_none() {
         constraints.ca();
     }
-    made.append_extension(constraints.critical().build().unwrap())
+    builder
+        .append_extension(constraints.critical().build().unwrap())
         .unwrap();
     let mut alternatives = SubjectAlternativeName::new();
     let alternatives = match names {
@@ -74,12 +76,12 @@ fn certificate(
         _ => None,
     };
     if let Some(alternatives) = alternatives {
-        let extension = alternatives.build(&made.x509v3_context(None, None));
-        made.append_extension(extension.unwrap()).unwrap();
+        let extension = alternatives.build(&builder.x509v3_context(None, None));
+        builder.append_extension(extension.unwrap()).unwrap();
     }
     let signing = by.map_or(key, |by| &by.key);
-    made.sign(signing, MessageDigest::sha256()).unwrap();
-    made.build()
+    builder.sign(signing, MessageDigest::sha256()).unwrap();
+    builder.build()
 }
 
 /// The time in seconds since 1970.
@@ -128,10 +130,10 @@ impl Folder {
         from: i64,
         by: Option<&Authority>,
     ) -> [PathBuf; 3] {
-        let made = certificate(&self.key, Some(names), from, by);
+        let signed = certificate(&self.key, Some(names), from, by);
         let paths = ["pem", "key", "authority"].map(|end| self.path.join(format!("{file}.{end}")));
         let contents = [
-            made.to_pem().unwrap(),
+            signed.to_pem().unwrap(),
             self.key.private_key_to_pem_pkcs8().unwrap(),
             self.authority.certificate.to_pem().unwrap(),
         ];

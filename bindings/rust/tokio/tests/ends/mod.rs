@@ -87,16 +87,16 @@ impl AsyncRead for Wire {
     fn poll_read(
         self: Pin<&mut Self>,
         _: &mut Context<'_>,
-        room: &mut ReadBuf<'_>,
+        buffer: &mut ReadBuf<'_>,
     ) -> Poll<io::Result<()>> {
         let mut world = self.0.lock().unwrap();
-        let count = world.came.len().min(room.remaining());
+        let count = world.came.len().min(buffer.remaining());
         let bytes: Vec<u8> = world.came.drain(..count).collect();
         match count {
             0 if world.breaks => Poll::Ready(Err(ErrorKind::ConnectionReset.into())),
             0 if !world.closes && world.is_open => Poll::Pending,
             _ => {
-                room.put_slice(&bytes);
+                buffer.put_slice(&bytes);
                 Poll::Ready(Ok(()))
             }
         }
