@@ -37,11 +37,33 @@ BUILDS = {
 BUILD = os.path.join(TOP, "programs", "build")
 
 
-class Example:
-    """One of our examples in one language."""
+class Built:
+    """What is built when it is first needed, unless a variable names it."""
 
-    # A lock for each program: others are built at the same time.
     locks = collections.defaultdict(threading.Lock)
+
+    def named(self):
+        """Returns the path that a variable names, or None."""
+        return None
+
+    def lock(self):
+        """Returns the lock of its build. What has another lock is built at the same time."""
+        return Built.locks[self.path()]
+
+    def built(self):
+        """Returns its path. It is built first if needed."""
+        if self.named():
+            return self.named()
+        if self.lacks():
+            raise Missing(self.lacks())
+        with self.lock():
+            if not os.path.exists(self.path()):
+                self.build()
+        return self.path()
+
+
+class Example(Built):
+    """One of our examples in one language."""
 
     def __init__(self, language, name, folder):
         self.name = language
@@ -63,34 +85,27 @@ class Example:
         missing = [tool for tool in tools if shutil.which(tool) is None]
         return f"{missing[0]} isn't installed" if missing else None
 
-    def built(self):
-        """Returns the path of its program, which is built first if needed."""
-        if self.named():
-            return self.named()
-        if self.lacks():
-            raise Missing(self.lacks())
-        _, _, where, words = BUILDS[self.name]
-        out = os.path.join(self.folder, f"{self.example}_{self.name.lower()}")
-        names = {"name": self.example, "out": out, "top": os.path.abspath(TOP)}
-        with Example.locks[out]:
-            if not os.path.exists(out):
-                self.build([word.format(**names) for word in words], os.path.join(TOP, where), out)
-        return out
+    def path(self):
+        """Returns the path of its program."""
+        return os.path.join(self.folder, f"{self.example}_{self.name.lower()}")
 
     def words(self):
         """Returns its command."""
         return [self.built()]
 
-    def build(self, words, where, out):
+    def build(self):
         """Builds it."""
+        _, _, where, words = BUILDS[self.name]
+        names = {"name": self.example, "out": self.path(), "top": os.path.abspath(TOP)}
+        words = [word.format(**names) for word in words]
         target = os.path.join(self.folder, "cargo")
         setting = dict(os.environ, CARGO_TARGET_DIR=target)
-        result = subprocess.run(words, cwd=where, env=setting, capture_output=True, text=True,
-                                timeout=480, check=False)
+        result = subprocess.run(words, cwd=os.path.join(TOP, where), env=setting, text=True,
+                                capture_output=True, timeout=480, check=False)
         if result.returncode:
             raise OSError(f"{' '.join(words)}: {result.stderr[-500:]}")
         if self.name == "Rust":
-            shutil.copy(os.path.join(target, "release", "examples", self.example), out)
+            shutil.copy(os.path.join(target, "release", "examples", self.example), self.path())
 
     def fetch(self, port, version):
         """Returns what this client holds after one answer of a cache, as lines of `rtr_diff
@@ -103,10 +118,9 @@ class Example:
         return {payloads.as_line(json.loads(line)) for line in result.stdout.splitlines()}
 
 
-class Program:
+class Program(Built):
     """A program in Go, by its name; RTR_CACHE and RTR_CLIENT name one that is already built."""
 
-    lock = threading.Lock()
     # Our programs that it runs.
     NEEDS = {"rtr-cache": "rtr_make", "rtr-client": "rtr_list"}
 
@@ -130,20 +144,20 @@ class Program:
         missing = listing.stdout.split()
         return f"{missing[0]} isn't installed" if missing else None
 
-    def built(self):
-        """Returns the path of the program, which is built first if needed."""
-        if self.named():
-            return self.named()
-        if self.lacks():
-            raise Missing(self.lacks())
-        path = os.path.join(self.folder, self.name)
-        with Program.lock:
-            if not os.path.exists(path):
-                result = subprocess.run([BUILD, self.folder], capture_output=True, text=True,
-                                        timeout=480, check=False)
-                if result.returncode:
-                    raise OSError(f"programs/build: {result.stderr[-500:]}")
-        return path
+    def path(self):
+        """Returns the path of the program."""
+        return os.path.join(self.folder, self.name)
+
+    def lock(self):
+        """Returns the lock of its folder, since one command builds all programs in it."""
+        return Built.locks[self.folder]
+
+    def build(self):
+        """Builds all programs in Go."""
+        result = subprocess.run([BUILD, self.folder], capture_output=True, text=True, timeout=480,
+                                check=False)
+        if result.returncode:
+            raise OSError(f"programs/build: {result.stderr[-500:]}")
 
     def words(self):
         """Returns its command, with our programs in its path."""
@@ -151,11 +165,10 @@ class Program:
         return ["env", f"PATH={path}:{os.environ['PATH']}", self.built()]
 
 
-class InPython:
+class InPython(Built):
     """The package for Python of this tree, with a shared library that is linked here."""
 
     name = "Python"
-    lock = threading.Lock()
     FOLLOWS = os.path.join(TOP, "interop", "follow.py")
     CACHE = os.path.join(TOP, "bindings", "python", "examples", "cache.py")
 
@@ -167,19 +180,18 @@ class InPython:
         """Returns why it can't be used here, or None."""
         return None if shutil.which("cc") else "cc isn't installed"
 
-    def built(self):
-        """Returns the path of the library, which is linked first if needed."""
-        if self.lacks():
-            raise Missing(self.lacks())
+    def path(self):
+        """Returns the path of the library."""
+        return self.library
+
+    def build(self):
+        """Links the library."""
         archives = os.path.dirname(os.path.dirname(os.path.join(TOP, ARCHIVE)))
         words = [os.path.join(TOP, "bindings", "package.py"), "--archives", archives]
-        with InPython.lock:
-            if not os.path.exists(self.library):
-                result = subprocess.run([*words, "--library", self.library], capture_output=True,
-                                        text=True, timeout=SECONDS, check=False)
-                if result.returncode:
-                    raise OSError(f"bindings/package.py: {result.stderr[-500:]}")
-        return self.library
+        result = subprocess.run([*words, "--library", self.library], capture_output=True,
+                                text=True, timeout=SECONDS, check=False)
+        if result.returncode:
+            raise OSError(f"bindings/package.py: {result.stderr[-500:]}")
 
     def words(self):
         """Returns the command of the script: the client that follows a cache, or the cache."""
@@ -205,11 +217,10 @@ class InNode:
         return ["node", self.CACHE]
 
 
-class TokioTLS:
+class TokioTLS(Built):
     """The example `tls` of the crate for tokio, with Debian's crates; RTR_TLS_RUST names one that
     is already built."""
 
-    lock = threading.Lock()
     REGISTRY = "/usr/share/cargo/registry"
     CRATES = ("tokio", "openssl", "tokio-openssl")
     PARTS = ("Cargo.toml", "build.rs", "src", "tests", "examples", "tokio")
@@ -217,30 +228,25 @@ class TokioTLS:
     def __init__(self, folder):
         self.folder = os.path.join(folder, "tokio")
 
+    def named(self):
+        """Returns the program that the variable names."""
+        return os.environ.get("RTR_TLS_RUST")
+
     def lacks(self):
         """Returns why it can't be built here, or None."""
-        if os.environ.get("RTR_TLS_RUST"):
+        if self.named():
             return None
         missing = [tool for tool in ("cargo", "cc") if shutil.which(tool) is None]
         missing += [f"librust-{crate}-dev" for crate in self.CRATES
                     if not glob.glob(f"{self.REGISTRY}/{crate}-[0-9]*")]
         return f"{missing[0]} isn't installed" if missing else None
 
-    def built(self):
-        """Returns the path of the program, which is built first if needed, in a copy, since cargo
-        writes into its folder."""
-        if os.environ.get("RTR_TLS_RUST"):
-            return os.environ["RTR_TLS_RUST"]
-        if self.lacks():
-            raise Missing(self.lacks())
-        path = os.path.join(self.folder, "target/debug/examples/tls")
-        with TokioTLS.lock:
-            if not os.path.exists(path):
-                self.build()
-        return path
+    def path(self):
+        """Returns the path of the program."""
+        return os.path.join(self.folder, "target/debug/examples/tls")
 
     def build(self):
-        """Builds it."""
+        """Builds it in a copy, since cargo writes into its folder."""
         copy = os.path.join(self.folder, "bindings/rust")
         shutil.rmtree(copy, ignore_errors=True)  # what a build left that failed
         os.makedirs(copy)
