@@ -211,9 +211,9 @@ static void test_changes(void)
     comes(changes.bytes, changes.length);
     EXPECT(DATA);
     size_t length;
-    const uint8_t *made = rtr_client_changes(&c, &length);
+    const uint8_t *delta = rtr_client_changes(&c, &length);
     CHECK(rtr_client_payloads(&c) == 2 && length == 3 * 20 + 24);
-    CHECK(made[8] == 1 && made[19] == 9 && made[39] == 1 && made[59] == 2);
+    CHECK(delta[8] == 1 && delta[19] == 9 && delta[39] == 1 && delta[59] == 2);
     ends();
 }
 
@@ -235,8 +235,8 @@ static void test_changes_from(void)
         add_end(&other, version, SESSION + version, 9, usual);
         add_end(&expected, higher, SESSION, 5, usual);
         has_data(1);
-        const uint8_t *made = rtr_client_changes_from(&c, other.bytes, other.length, &length);
-        CHECK(made && length == expected.length && !memcmp(made, expected.bytes, length));
+        const uint8_t *delta = rtr_client_changes_from(&c, other.bytes, other.length, &length);
+        CHECK(delta && length == expected.length && !memcmp(delta, expected.bytes, length));
         CHECK(rtr_client_changes_from(&c, NULL, 0, &length) == c.data && length == c.data_length);
         CHECK(!rtr_client_changes_from(&c, other.bytes, other.length - 1, &length) && !length);
         allocations = 0;

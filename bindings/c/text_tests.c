@@ -89,7 +89,7 @@ static void check_report(const struct arena *arena, uint16_t code, const char *d
                          const char *text)
 {
     uint8_t bytes[128];
-    char said[200], whole[200];
+    char written[200], whole[200];
     size_t size = bytes_of(digits, bytes);
     const uint8_t *input = copied(arena, arena->input, bytes, size);
     struct asked asked = {.call = REPORT, .number = code, .reported = input,
@@ -97,11 +97,11 @@ static void check_report(const struct arena *arena, uint16_t code, const char *d
     struct rtr_unit unit = {.code = code, .text_length = size};
     check_text(arena, &asked, text);
     snprintf(whole, sizeof whole, "it says: %s", text);
-    for (size_t capacity = 1; capacity <= sizeof said; capacity++) {
-        memset(said, 'x', sizeof said);
-        rtr_reported_text("it says", &unit, input, said, capacity);
-        CHECK(strlen(said) == (strlen(whole) < capacity ? strlen(whole) : capacity - 1));
-        CHECK(memcmp(said, whole, strlen(said)) == 0);
+    for (size_t capacity = 1; capacity <= sizeof written; capacity++) {
+        memset(written, 'x', sizeof written);
+        rtr_reported_text("it says", &unit, input, written, capacity);
+        CHECK(strlen(written) == (strlen(whole) < capacity ? strlen(whole) : capacity - 1));
+        CHECK(memcmp(written, whole, strlen(written)) == 0);
     }
 }
 

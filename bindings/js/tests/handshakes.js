@@ -59,13 +59,13 @@ export const TESTS = {
             const flag = new Int32Array(new SharedArrayBuffer(4));
             const other = new Worker(new URL("reuses.js", import.meta.url),
                 { workerData: { port, localPort, ca: own.cert, flag } });
-            const said = once(other, "message");
+            const message = once(other, "message");
             Atomics.wait(flag, 0, 0); // the first connection is in the queue of the system
             await sleep(100); // it is accepted
             Atomics.store(flag, 0, 2);
             Atomics.notify(flag, 0);
             Atomics.wait(flag, 0, 2); // it is reset, and the second one is in the queue
-            const [got] = await said;
+            const [got] = await message;
             assert.deepEqual(Buffer.from(got), answer(1, prefix(1)));
             await until(() => ended.length > 0);
         }, { tls: own });

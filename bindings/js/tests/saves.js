@@ -24,7 +24,7 @@ export const TESTS = {
                 [Buffer.alloc(0), damaged, () => rmSync(path)],
             ]) {
                 rmSync(path, { force: true });
-                await withServer(rtr, {}, (one) => one.updateSaved(dataOf(rtr, 1, 1), path));
+                await withServer(rtr, {}, (server) => server.updateSaved(dataOf(rtr, 1, 1), path));
                 const content = bytes ?? readFileSync(path);
                 writeFileSync(path, content);
                 await withServer(rtr, {}, async (server) => {

@@ -8,7 +8,7 @@ import { NotRestored, OtherFile, Reason, Server, ServerError, StoresStatus, Upda
     from "../server.js";
 
 /** Describes a unit, whose kind determines its fields. */
-function told(unit: Unit): string | null {
+function described(unit: Unit): string | null {
     switch (unit.kind) {
         case Kind.ASPA:
             return unit.providers.map((asn: number) => `AS${asn}`).join(" ");
@@ -25,16 +25,16 @@ export async function main(module: ArrayBuffer, recording: Uint8Array): Promise<
     const rtr: Session = await load(module, { most: 1 << 24 });
     try {
         for (const unit of rtr.units(recording)) {
-            console.log(told(unit), rtr.writeUnit(unit).length);
+            console.log(described(unit), rtr.writeUnit(unit).length);
         }
     } catch (error) {
         if (error instanceof Fault && error.status === Status.SHORT) {
             console.log(error.code, error.wanted);
         }
     }
-    const made: Data = rtr.data(rtr.order(rtr.writeUnit({ kind: Kind.RESET_QUERY, version: 1 })));
+    const own: Data = rtr.data(rtr.order(rtr.writeUnit({ kind: Kind.RESET_QUERY, version: 1 })));
     const { data, hasCut }: Loaded = rtr.loadData(recording);
-    console.log(made.serial, hasCut);
+    console.log(own.serial, hasCut);
     const route = { prefix: "192.0.2.0/24", asn: 65551 };
     if (data.validate(route) === Validity.INVALID) {
         console.log([...data.covering(route)].map(({ mismatch }) => mismatch));
@@ -46,7 +46,7 @@ export async function main(module: ArrayBuffer, recording: Uint8Array): Promise<
 
 /** Describes an update. */
 function changed(update: Update): string {
-    const changes = Array.from(update.changes(), (unit) => told(unit));
+    const changes = Array.from(update.changes(), (unit) => described(unit));
     return update.data === null ? "none" : `${update.data.serial} ${changes} ${update.client}`;
 }
 

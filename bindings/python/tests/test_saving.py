@@ -153,14 +153,14 @@ class Saving(Case):
         server.update_saved(data(1, [1]), self.path)
         after = Server()
         after.restore(self.path)
-        for serial, one in enumerate((server, after), 2):
-            one.update(data(serial, [serial]))
+        for serial, saving in enumerate((server, after), 2):
+            saving.update(data(serial, [serial]))
             self.assertEqual(Server().restore(self.path), data(serial, [serial]))
             with mock.patch("os.fsync", side_effect=OSError(errno.EIO, "failed")):
                 with self.assertRaises(OSError):
-                    one.update(data(serial + 1, [7]))
-            self.assertEqual(one.end.serial, serial)
-            if one is server:
+                    saving.update(data(serial + 1, [7]))
+            self.assertEqual(saving.end.serial, serial)
+            if saving is server:
                 after.update(data(2, [2]))
 
     def test_first_data_that_cannot_be_saved(self):
@@ -179,15 +179,15 @@ class Saving(Case):
         server = Server()
         server.update_saved(data(1, [1]), self.path)
         server.update_saved(data(1, [1], session=7), self.path)
-        for one in server, Server():
-            if one is not server:
-                one.restore(self.path)
+        for each in server, Server():
+            if each is not server:
+                each.restore(self.path)
             with self.assertRaises(UpdateError) as caught:
-                one.update(data(9, [2]))
+                each.update(data(9, [2]))
             self.assertEqual(caught.exception.status, StoresStatus.SESSION_LEFT)
             self.assertEqual(str(caught.exception),
                              "the cache left this session: the data need a new one")
-        self.assertEqual(one.end.session, 7)
+        self.assertEqual(each.end.session, 7)
 
     def test_limits_of_changes(self):
         for limits, known in ((ServerLimits(), [1, 2]), (ServerLimits(keep_bytes=100), [2]),
@@ -238,8 +238,8 @@ class Saving(Case):
         server.update(Data.from_vrps([Vrp(prefix(1).prefix, asn=64496, max_length=24)],
                                      EndOfData(SESSION, 1, version=0)))
         for version in (0, 1, 2):
-            wanted = response(version) + bytes(data(1, [1]).for_version(version))
-            self.assertEqual(answer(server, ResetQuery(version=version)), wanted)
+            expected = response(version) + bytes(data(1, [1]).for_version(version))
+            self.assertEqual(answer(server, ResetQuery(version=version)), expected)
 
     def test_answers_are_kept(self):
         """Each answer is computed once for all routers, unless there is no space."""
@@ -284,7 +284,8 @@ class Files(Case):
             self.assertIsNone(after.end)
 
     def test_a_former_file(self):
-        first, second, third, fourth = (data(one, [one, one + 1]) for one in range(1, 5))
+        first, second, third, fourth = (data(serial, [serial, serial + 1])
+                                        for serial in range(1, 5))
         steps = third.delta(second), second.delta(first)
         file = former_file(third, *steps)
         self.path.write_bytes(file)
@@ -384,9 +385,9 @@ class Files(Case):
                         archive()], cwd=folder, check=True)
 
         def play(*lines):
-            said = subprocess.run([end], input="".join(f"{line}\n" for line in lines), text=True,
-                                  stdout=subprocess.PIPE, check=True).stdout
-            return bytes.fromhex("".join(line.split()[2] for line in said.splitlines()
+            printed = subprocess.run([end], input="".join(f"{line}\n" for line in lines), text=True,
+                                     stdout=subprocess.PIPE, check=True).stdout
+            return bytes.fromhex("".join(line.split()[2] for line in printed.splitlines()
                                          if " cache> " in line))
 
         play("scene c", "cache usual", *(f"{time} data {{ {bytes(one).hex()} }}"
@@ -447,8 +448,8 @@ class OneFile(Case):
 
     def test_a_refusal_names_no_file(self):
         self.path.touch()
-        for update in (lambda one: one.update_saved(data(1, [1]), self.folder / "other"),
-                       lambda one: one.update(data(1, [1]))):
+        for update in (lambda server: server.update_saved(data(1, [1]), self.folder / "other"),
+                       lambda server: server.update(data(1, [1]))):
             server = Server()
             self.refuses(server, b"")
             self.assertTrue(update(server))

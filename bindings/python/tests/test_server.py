@@ -35,13 +35,13 @@ def prefix(number, version=2):
 
 def data(serial, numbers, session=SESSION):
     """Returns data with the prefixes of these numbers."""
-    return Data([prefix(one) for one in numbers], EndOfData(session, serial, version=2))
+    return Data([prefix(number) for number in numbers], EndOfData(session, serial, version=2))
 
 
 def many(serial, count):
     """Returns data of many prefixes."""
-    packed = b"".join(struct.pack(">BBHIBBBBII", 2, 4, 0, 20, 1, 32, 32, 0, (10 << 24) + one, 64496)
-                      for one in range(count))
+    packed = b"".join(struct.pack(">BBHIBBBBII", 2, 4, 0, 20, 1, 32, 32, 0, address, 64496)
+                      for address in range(10 << 24, (10 << 24) + count))
     return Data.from_bytes(packed + bytes(EndOfData(SESSION, serial, version=2)))
 
 
@@ -280,24 +280,24 @@ class Answers(Servers):
 
     async def test_missing_families(self):
         """A server listens at the addresses that the system has, and at no other ones."""
-        server, make = Server(), socket.socket
+        server, real_socket = Server(), socket.socket
         server.update(data(1, [1]))
         for missing in (errno.EAFNOSUPPORT, errno.EADDRNOTAVAIL):
-            def made(family=-1, *given, lacks=(socket.AF_INET6,), error=missing, **named):
+            def new_socket(family=-1, *given, lacks=(socket.AF_INET6,), error=missing, **named):
                 if family in lacks:
                     raise OSError(error, os.strerror(error))
-                return make(family, *given, **named)
+                return real_socket(family, *given, **named)
 
             with socket.create_server(("127.0.0.1", 0)) as free:
                 port = free.getsockname()[1]
             found = [(socket.AF_INET6, socket.SOCK_STREAM, 6, "", ("::1", port, 0, 0)),
                      (socket.AF_INET, socket.SOCK_STREAM, 6, "", ("127.0.0.1", port))]
             with mock.patch("socket.getaddrinfo", lambda *given, **named: found):
-                with mock.patch("socket.socket", made):
+                with mock.patch("socket.socket", new_socket):
                     self.tasks.append(asyncio.ensure_future(server.serve("localhost", port)))
                     streams = await self.connected(port)
-                made.__kwdefaults__["lacks"] = (socket.AF_INET6, socket.AF_INET)
-                with mock.patch("socket.socket", made), self.assertRaises(OSError) as raised:
+                new_socket.__kwdefaults__["lacks"] = (socket.AF_INET6, socket.AF_INET)
+                with mock.patch("socket.socket", new_socket), self.assertRaises(OSError) as raised:
                     await server.serve("localhost", port)
             self.assertEqual(raised.exception.errno, missing)
             self.routers.append(Router(*streams))
@@ -310,7 +310,8 @@ class Answers(Servers):
                 socket.create_server(("127.0.0.2", 0)) as used:
             first, second = free.getsockname(), used.getsockname()
             free.close()
-            found = [(socket.AF_INET, socket.SOCK_STREAM, 6, "", one) for one in (first, second)]
+            found = [(socket.AF_INET, socket.SOCK_STREAM, 6, "", address)
+                     for address in (first, second)]
             with mock.patch("socket.getaddrinfo", lambda *given, **named: found):
                 with self.assertRaises(OSError) as raised:
                     await Server().serve("localhost", first[1])
@@ -640,14 +641,14 @@ class Doors(Servers):
         self.assertEqual((server._door.served, server._runs), (0, set()))
 
     async def test_a_callback_that_raises(self):
-        told = []
-        asyncio.get_running_loop().set_exception_handler(lambda _, what: told.append(what))
+        contexts = []
+        asyncio.get_running_loop().set_exception_handler(lambda _, what: contexts.append(what))
         server = self.serves(ServerLimits(first_limit=0.1))
         server._ended = mock.Mock(side_effect=ZeroDivisionError)
         router = await self.router()
         self.assertIsNone(await router.reads())
-        await self.has(lambda: told)
-        self.assertIsInstance(told[0]["exception"], ZeroDivisionError)
+        await self.has(lambda: contexts)
+        self.assertIsInstance(contexts[0]["exception"], ZeroDivisionError)
 
     async def test_an_update_of_another_thread(self):
         server = self.serves()
