@@ -15,8 +15,8 @@ Each block of Rust, C, Go, Python or JavaScript needs such a line, or is a file 
 
 It also compares the rows of tables with the lines of clauses: each name of the first cell is that
 of a clause, a field or an item that begins on the line that the last cell names, as `PATH:LINE`, in
-order; those with the size of a file of prebuilt/; sentences with the size of a struct of rtr.h, as
-bindings/c/layout.c has it; and those after a line
+order; sentences with the size of a struct of rtr.h, as bindings/c/layout.c has it; and rows after
+a line
 
     <!-- samples: PART -->          the bytes of the samples in this part of tests/samples, and
                                     their forms, or their lines of rtr_list
@@ -37,7 +37,6 @@ MARKER = re.compile(r"<!-- shown: (\S+)((?: \w+)*) -->$")
 CODE = re.compile(r"```(rust|c|go|python|js)\b")
 PLACE = re.compile(r"`([\w/.]+):(\d+)`")
 PART = re.compile(r"<!-- samples: (.+) -->$")
-SIZE = re.compile(r"\| `(prebuilt/[\w/.]+)` \| (\d+) KB \|")
 STRUCT = re.compile(r"(`struct (\w+)` is .* in )(\d+)( bytes)")
 LAYOUT = TOP / "bindings/c/layout.c"
 TESTS = re.compile(r"^#\[cfg\(test\)\]\nmod \w+;\n\n?", re.MULTILINE)
@@ -132,22 +131,6 @@ def check_places(page, lines, write):
     return named, wrong
 
 
-def check_sizes(page, lines, write):
-    """Reports which row of a table names a wrong size, or fixes it; returns as `check`."""
-    named = wrong = 0
-    for number, line in enumerate(lines):
-        row = SIZE.match(line)
-        if row:
-            named += 1
-            size = round((TOP / row[1]).stat().st_size / 1024)
-            if write:
-                lines[number] = f"| `{row[1]}` | {size} KB |" + line[row.end():]
-            elif size != int(row[2]):
-                print(f"{page.relative_to(TOP)}:{number + 1}: {row[1]} has {size} KB")
-                wrong += 1
-    return named, wrong
-
-
 def check_structs(page, lines, write):
     """Reports which sentence names a wrong size of a struct, or fixes it; returns as `check`."""
     named = wrong = 0
@@ -194,7 +177,7 @@ def check_samples(page, lines, write):
 def check(page, write):
     """Reports what is wrong with a page, or fixes it; returns how much was shown and was wrong."""
     lines = page.read_text().splitlines()
-    checks = (check_places, check_sizes, check_structs, check_samples)
+    checks = (check_places, check_structs, check_samples)
     shown, wrong = map(sum, zip(*(compare(page, lines, write) for compare in checks)))
     for opened, closed, marker in reversed(list(blocks(lines))):
         where = f"{page.relative_to(TOP)}:{opened + 1}"
