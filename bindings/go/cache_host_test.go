@@ -219,10 +219,10 @@ func (m measuring) Accept() (net.Conn, error) {
 	if err != nil {
 		return nil, err
 	}
-	made := &measured{TCPConn: connection.(*net.TCPConn)}
-	made.SetWriteBuffer(1 << 14)
-	m.accepted <- made
-	return made, nil
+	counting := &measured{TCPConn: connection.(*net.TCPConn)}
+	counting.SetWriteBuffer(1 << 14)
+	m.accepted <- counting
+	return counting, nil
 }
 
 // A counting connection gets the number of bytes of all answers, and how many came from a file.

@@ -33,18 +33,18 @@ func (h *handshaking) Close() error {
 	return h.Conn.Close()
 }
 
-// told closes a channel at the first read or write.
-type told struct {
+// signalling closes a channel at the first read or write.
+type signalling struct {
 	net.Conn
 	reads, writes chan struct{}
 }
 
-func (c *told) Read(bytes []byte) (int, error) {
+func (c *signalling) Read(bytes []byte) (int, error) {
 	close(c.reads)
 	return c.Conn.Read(bytes)
 }
 
-func (c *told) Write(bytes []byte) (int, error) {
+func (c *signalling) Write(bytes []byte) (int, error) {
 	close(c.writes)
 	return c.Conn.Write(bytes)
 }
@@ -55,12 +55,12 @@ func TestContextInEachWait(t *testing.T) {
 	for name, row := range map[string]func(began chan struct{}) (net.Conn, error){
 		"a write": func(began chan struct{}) (net.Conn, error) {
 			near, _ := net.Pipe()
-			return &told{near, nil, began}, nil
+			return &signalling{near, nil, began}, nil
 		},
 		"a read": func(began chan struct{}) (net.Conn, error) {
 			near, far := net.Pipe()
 			go io.CopyN(io.Discard, far, headerSize) // a reset query (RFC 8210 section 5.4)
-			return &told{near, began, make(chan struct{})}, nil
+			return &signalling{near, began, make(chan struct{})}, nil
 		},
 		"a handshake": func(began chan struct{}) (net.Conn, error) {
 			near, _ := net.Pipe()

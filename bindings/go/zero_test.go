@@ -207,8 +207,8 @@ func TestNegativeDurations(t *testing.T) {
 	client.Limits.Dial, client.Refresh = -time.Second, -time.Nanosecond
 	unset := NewClient("")
 	negative := settingsOf(client, client.Limits.orUsual(), 0)
-	wanted := settingsOf(unset, unset.Limits, 0)
-	if negative != wanted {
-		t.Errorf("got %+v, want %+v", negative, wanted)
+	usual := settingsOf(unset, unset.Limits, 0)
+	if negative != usual {
+		t.Errorf("got %+v, want %+v", negative, usual)
 	}
 }

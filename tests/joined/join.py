@@ -22,7 +22,7 @@ def main():
         try:
             simulation.run(int(steps))
         except (Wrong, EOFError, BrokenPipeError) as wrong:
-            for now, end, what, did, wakes in simulation.told:
+            for now, end, what, did, wakes in simulation.latest:
                 print(now, end, what or "at", "->", did, "wakes", wakes)
             sys.exit(f"join: by seed {seed}, after {simulation.steps} steps, of which the last are "
                      f"above: {wrong}")

@@ -13,7 +13,8 @@ class Link:
     def begin(self, is_one_more):
         """Opens a connection, which may be above the cache's limit."""
         self.router_has, self.cache_has = True, True
-        self.router_told, self.cache_told = False, False  # whether the other end closed
+        # whether each end has read that the other one closed
+        self.router_saw_close, self.cache_saw_close = False, False
         self.to_router, self.to_cache = b"", b""
         self.begun = {}  # the first bytes of the last unit of an end
         self.is_one_more, self.had_no_data, self.has_report = is_one_more, False, False
@@ -28,17 +29,18 @@ class Link:
         """Reports whether bytes, or the other end's close, are in transit to this end."""
         if to_router:
             return self.router_has and bool(self.to_router
-                                            or not (self.cache_has or self.router_told))
-        return self.cache_has and bool(self.to_cache or not (self.router_has or self.cache_told))
+                                            or not (self.cache_has or self.router_saw_close))
+        return self.cache_has and bool(self.to_cache
+                                       or not (self.router_has or self.cache_saw_close))
 
     def take(self, to_router, most):
         """Returns at most this many of the bytes; none if the other end closed."""
         if to_router:
             taken, self.to_router = self.to_router[:most], self.to_router[most:]
-            self.router_told |= not taken
+            self.router_saw_close |= not taken
         else:
             taken, self.to_cache = self.to_cache[:most], self.to_cache[most:]
-            self.cache_told |= not taken
+            self.cache_saw_close |= not taken
         return taken
 
     def sent(self, end, sent):

@@ -43,7 +43,7 @@ class Simulation:
         self.random = Random(seed)
         self.router, self.cache = router, cache
         self.now, self.steps, self.compared = 0, 0, 0
-        self.told = deque(maxlen=REMEMBERED)
+        self.latest = deque(maxlen=REMEMBERED)
         self.past, self.link = Past(self.random), Link()
         self.present = self.saved = self.shown = self.expires = None
         self.begin_router()
@@ -72,7 +72,7 @@ class Simulation:
         self.steps += 1
         did = end.tell(self.now, what)
         name = "router" if end is self.router else "cache "
-        self.told.append((self.now, name, what, did, end.wakes))
+        self.latest.append((self.now, name, what, did, end.wakes))
         if end.wakes <= self.now:
             raise Wrong(f"the {name.strip()} doesn't come to rest")
         for time, words in did:
