@@ -30,7 +30,7 @@ async fn cache(
     files: &[PathBuf; 3],
     first_query: Duration,
 ) -> (AsyncServer, SocketAddr, Receiver<String>) {
-    let (sender, told) = channel();
+    let (sender, endings) = channel();
     let sender = Mutex::new(sender);
     let options = ServerOptions {
         first_query,
@@ -48,7 +48,7 @@ async fn cache(
         let ready = |stream| accept(acceptor.clone(), stream);
         serving.serve_with(listener, ready).await.unwrap();
     });
-    (server, address, told)
+    (server, address, endings)
 }
 
 fn options() -> ClientOptions {
@@ -78,13 +78,13 @@ fn is_refused(fetched: &Result<Data, ClientError>) -> bool {
     matches!(fetched, Err(ClientError::Io(error)) if error.kind() == ErrorKind::PermissionDenied)
 }
 
-/// A text that a server told.
-async fn told(receiver: Receiver<String>) -> (Receiver<String>, String) {
-    let told = spawn_blocking(move || {
-        let text = receiver.recv_timeout(PATIENCE).expect("the server tells");
+/// Why the server ended the next connection that ends.
+async fn next_ending(receiver: Receiver<String>) -> (Receiver<String>, String) {
+    let waiting = spawn_blocking(move || {
+        let text = receiver.recv_timeout(PATIENCE).expect("a connection ends");
         (receiver, text)
     });
-    told.await.unwrap()
+    waiting.await.unwrap()
 }
 
 /// The files of a cache and of a router that are who they say.
@@ -162,7 +162,7 @@ async fn certificates_of_routers() {
         // The program may first report how the previous connection ended.
         let mut text = String::new();
         while !text.contains("certificate") {
-            (receiver, text) = told(receiver).await;
+            (receiver, text) = next_ending(receiver).await;
         }
         assert_eq!(fetched(address, NAME, &router).await.unwrap(), data(1));
     }
@@ -174,7 +174,7 @@ async fn certificates_of_routers() {
         let _ = std::io::copy(&mut peer.stream, &mut std::io::sink());
     });
     garbage.await.unwrap();
-    let (_, text) = told(receiver).await;
+    let (_, text) = next_ending(receiver).await;
     assert!(!text.is_empty());
     server.stop();
 }
@@ -199,7 +199,7 @@ async fn handshakes_that_stall() {
     let mut receiver = receiver;
     for _ in 0..2 {
         let text;
-        (receiver, text) = told(receiver).await;
+        (receiver, text) = next_ending(receiver).await;
         assert_eq!(text, "the router is too slow");
     }
     server.stop();

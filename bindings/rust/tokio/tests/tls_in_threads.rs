@@ -96,7 +96,7 @@ fn cache_until(
     first_query: Duration,
     files: &[PathBuf; 3],
 ) -> (Server, SocketAddr, Receiver<String>) {
-    let (sender, told) = channel();
+    let (sender, endings) = channel();
     let sender = Mutex::new(sender);
     let options = ServerOptions {
         first_query,
@@ -114,7 +114,7 @@ fn cache_until(
         Ok(Tls(SslStream::new(ssl, stream)?))
     };
     let address = server.listen_with("127.0.0.1:0", ready).unwrap();
-    (server, address, told)
+    (server, address, endings)
 }
 
 /// Two clients stall, one in the middle of a handshake, and hold nobody: another follows the data.
@@ -125,7 +125,7 @@ fn handshakes_that_stall() {
     let (lately, by) = (now() - 60, Some(&folder.authority));
     let good = folder.files("cache", &Names::Host(NAME), lately, by);
     let router = folder.files("router", &Names::Address("127.0.0.1"), lately, by);
-    let (server, address, told) = cache_until(milliseconds(1500), &good);
+    let (server, address, endings) = cache_until(milliseconds(1500), &good);
     let began = Instant::now();
     let mut stalled = [Peer::connect(address), Peer::connect(address)];
     stalled[1].send(&[22, 3, 1, 2, 0, 1, 0]);
@@ -147,7 +147,7 @@ fn handshakes_that_stall() {
     assert!(began.elapsed() >= milliseconds(1400), "they ended early");
     assert!(began.elapsed() < LATE, "they ended late");
     let slow = |text: &String| text == "the router is too slow";
-    let texts = std::iter::from_fn(|| told.recv_timeout(milliseconds(500)).ok());
+    let texts = std::iter::from_fn(|| endings.recv_timeout(milliseconds(500)).ok());
     assert_eq!(texts.filter(slow).count(), 2);
 }
 
@@ -165,7 +165,7 @@ fn certificates_of_caches() {
         ("expired", NAME, long_ago, by),
     ] {
         let files = folder.files(file, &Names::Host(host), from, by);
-        let (_server, address, _told) = cache(&files);
+        let (_server, address, _endings) = cache(&files);
         let fetched = client(address, NAME, &router).fetch();
         assert!(matches!(fetched, Err(ClientError::Io(_))), "{fetched:?}");
     }
@@ -180,7 +180,7 @@ fn certificates_of_routers() {
     let good = folder.files("cache", &Names::Host(NAME), lately, by);
     let here = || Names::Address("127.0.0.1");
     let router = folder.files("router", &here(), lately, by);
-    let (server, address, told) = cache(&good);
+    let (server, address, endings) = cache(&good);
     for (file, from, by) in [
         ("nobody's", lately, Some(&nobody)),
         ("its own", lately, None),
@@ -189,7 +189,7 @@ fn certificates_of_routers() {
         let files = folder.files(file, &here(), from, by);
         let fetched = client(address, NAME, &files).fetch();
         assert!(fetched.is_err(), "{file}: {fetched:?}");
-        let mut texts = std::iter::from_fn(|| told.recv_timeout(PATIENCE).ok());
+        let mut texts = std::iter::from_fn(|| endings.recv_timeout(PATIENCE).ok());
         assert!(texts.any(|text| text.contains("certificate")), "{file}");
         assert_eq!(client(address, NAME, &router).fetch().unwrap(), data(1));
     }
@@ -251,7 +251,7 @@ fn a_router_that_renegotiates() {
     let (lately, by) = (now() - 60, Some(&folder.authority));
     let good = folder.files("cache", &Names::Host(NAME), lately, by);
     let router = folder.files("router", &Names::Address("127.0.0.1"), lately, by);
-    let (_server, address, _told) = cache(&good);
+    let (_server, address, _endings) = cache(&good);
     let mut peer = match OpenSsl::router(address, &router) {
         Some(peer) => peer,
         None => return,
