@@ -208,7 +208,7 @@ def test_data():
     gone = prefix("10.0.0.0/8", 24, 65551, announce=0)
     run = Run(answers(sequence([PAYLOADS[0][0], gone, PAYLOADS[1][0]])))
     assert run.lines == plus[1:2]
-    # In version 1, the default of a client without --version.
+    # Without --version a client asks in version 1.
     old = response(1) + prefix("10.0.0.0/8", 24, 65551, version=1) + end(7, 1)
     run = Run(answers(old, 1), ("--once",))
     assert (run.status, run.lines) == (0, plus[:1])

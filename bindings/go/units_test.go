@@ -570,7 +570,7 @@ func TestKinds(t *testing.T) {
 			t.Fatalf("%d: %v", kind, Kind(kind))
 		}
 	}
-	// By RFC 8210 section 12, and those above 8 as in the Rust crate rpki.
+	// The texts are those of RFC 8210 section 12, and above 8 those of the Rust crate rpki.
 	for code, text := range []string{
 		"Corrupt Data", "Internal Error", "No Data Available", "Invalid Request",
 		"Unsupported Protocol Version",
@@ -746,7 +746,7 @@ func TestReportsCut(t *testing.T) {
 	}
 }
 
-// By RFC 1982 section 3.2.
+// Serial numbers are compared by RFC 1982 section 3.2.
 func TestSerials(t *testing.T) {
 	for _, shown := range []struct {
 		left, right uint32

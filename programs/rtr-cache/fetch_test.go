@@ -223,7 +223,7 @@ func TestLastModified(t *testing.T) {
 }
 
 // A failed fetch is logged by one line and counted by its reason; the served data stay, and /health
-// has the reason until a fetch succeeds again. So does an invalid list.
+// has the reason until a fetch succeeds again. It also has the fault of an invalid list.
 func TestFailedFetches(t *testing.T) {
 	t.Parallel()
 	other := newWeb(t, text(rows(1)))

@@ -36,7 +36,7 @@ func injected(t *testing.T, folder, path, injection string) *trial.Process {
 // injectedAt is injected with any path.
 func injectedAt(t *testing.T, folder, path, injection string) *trial.Process {
 	t.Helper()
-	// As a grandchild, so that the cache is the process that the test kills.
+	// strace runs as a grandchild, so that the cache is the process that the test kills.
 	run := exec.Command("strace", "-D", "-f", "-qq", "-o", folder+"/trace",
 		"-P", path, "-e", "inject="+injection,
 		os.Args[0], "--csv", "f", "--state", folder+"/state", "--listen", "127.0.0.1:0")

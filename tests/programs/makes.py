@@ -227,7 +227,7 @@ RUNS = [
     (CSV, "", b"AS65551,192.0.2.0/23,\n", V4_EXACT + END, "", 0),
     (CSV, "", b"AS65551,192.0.2.0/23\n", V4_EXACT + END, "", 0),
     (CSV, "", b"AS65551,192.0.2.0/23\nAS65551,192.0.2.0/23,23\n", V4_EXACT + END, "", 0),
-    # Each payload once, in their order.
+    # Each payload is written once, in their order.
     (CSV, "", LINE * 3, V4 + END, "", 0),
     (CSV, "", b"AS65550,2001:db8::/32,48\n" + LINE + b"AS65551,198.51.100.0/24,24\n" + LINE, V4 + OTHER + V6 + END, "", 0),
     # Options for the end of data.

@@ -241,7 +241,7 @@ fn a_client_that_waits() {
     }
 }
 
-/// So is a member of a group, by its client.
+/// A member of a group that waits is woken by its client.
 #[test]
 fn a_client_that_is_followed() {
     let _alone = alone();

@@ -182,7 +182,7 @@ fn changes_without_memory() {
     }
 }
 
-/// So is the loss of data, and it is logged.
+/// The loss of data is reported and logged without memory for the changes, too.
 #[test]
 fn dropped_without_memory() {
     let mut router = asked();

@@ -180,7 +180,7 @@ fn in_memory() {
     }
 }
 
-/// The same through a reader.
+/// A reader returns the same units and faults.
 #[test]
 fn read() {
     for (input, answers) in sessions() {

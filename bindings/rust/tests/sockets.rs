@@ -247,7 +247,7 @@ fn connections_that_are_refused() {
 }
 
 extern "C" {
-    // Of the C library on Linux.
+    // The C library has it on Linux.
     fn getsockopt(
         socket: c_int,
         level: c_int,

@@ -251,7 +251,7 @@ fn going_on() {
     let report = refusal.report().expect("a report is owed");
     let mut written = Vec::new();
     let size = Unit::ErrorReport(report).append(&mut written);
-    // By RFC 8210 section 5.11.
+    // RFC 8210 section 5.11 has the layout.
     let head = [1, 10, 0, 0, 0, 0, 0, 59, 0, 0, 0, 20];
     let expected = [
         &head,

@@ -387,7 +387,7 @@ fn reports_cut() {
     }
 }
 
-/// By RFC 1982 section 3.2.
+/// Serial numbers are compared by RFC 1982 section 3.2.
 #[test]
 fn serials() {
     let rows = [

@@ -116,7 +116,7 @@ fn server_limits() -> ServerOptions {
     }
 }
 
-/// What a client has, by the changes that it told.
+/// What a client has, by the changes that it reported.
 #[derive(Default)]
 struct Log {
     lines: BTreeSet<String>,
