@@ -37,13 +37,13 @@ fn is_served(client: &mut Peer) {
 
 /// A client that is served, and 64 that are refused, at a server for one.
 fn full(connect: impl Fn() -> Peer) -> (Peer, Vec<Peer>) {
-    let mut served = connect();
-    is_served(&mut served);
+    let mut first = connect();
+    is_served(&mut first);
     let mut refused: Vec<Peer> = (0..64).map(|_| connect()).collect();
     for client in &mut refused {
         assert_eq!(client.report(), FULL);
     }
-    (served, refused)
+    (first, refused)
 }
 
 /// Above the limit 64 clients are refused at once. Others wait to be accepted until one of these
@@ -53,7 +53,7 @@ fn clients_that_wait() {
     let _alone = alone();
     let (server, _endings) = telling(1);
     let address = server.listen("127.0.0.1:0").unwrap();
-    let (served, mut refused) = full(|| Peer::connect(address));
+    let (first, mut refused) = full(|| Peer::connect(address));
     let mut waiting = Peer::connect(address);
     let patience = Some(milliseconds(500));
     waiting.stream.get_ref().set_read_timeout(patience).unwrap();
@@ -63,7 +63,7 @@ fn clients_that_wait() {
     waiting.stream.get_ref().set_read_timeout(patience).unwrap();
     drop(refused.pop());
     assert_eq!(waiting.report(), FULL);
-    drop(served);
+    drop(first);
     assert!(holds(|| server.clients() == 0));
     is_served(&mut Peer::connect(address));
 }

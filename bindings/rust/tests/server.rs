@@ -717,13 +717,13 @@ fn reasons() {
         drop(client);
         assert!(holds(|| server.clients() == 0));
     }
-    let mut served = Peer::connect(address);
-    served.send(&reset_query(2));
-    served.response();
+    let mut first = Peer::connect(address);
+    first.send(&reset_query(2));
+    first.response();
     assert!(Peer::connect(address).report().is_some());
     assert_eq!(why(), "too many connections");
     server.update(data_of(7, 1, 20)).unwrap();
-    assert!(served.is_closed());
+    assert!(first.is_closed());
     assert_eq!(why(), "the data are of a new session");
     drop(server);
     assert!(endings.recv_timeout(milliseconds(10)).is_err());

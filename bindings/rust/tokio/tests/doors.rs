@@ -69,13 +69,13 @@ async fn report(client: &mut (impl AsyncReadExt + Unpin)) -> ErrorCode {
 
 /// A client that is served, and 64 that are refused, at a server for one.
 async fn full(server: &AsyncServer) -> (DuplexStream, Vec<DuplexStream>) {
-    let (mut served, _) = connect(server);
-    is_served(&mut served).await;
+    let (mut first, _) = connect(server);
+    is_served(&mut first).await;
     let mut refused: Vec<_> = (0..64).map(|_| connect(server).0).collect();
     for client in &mut refused {
         assert_eq!(report(client).await, ErrorCode::INTERNAL_ERROR);
     }
-    (served, refused)
+    (first, refused)
 }
 
 /// A listener leaves clients waiting while the server is full, and accepts one when a connection
@@ -83,7 +83,7 @@ async fn full(server: &AsyncServer) -> (DuplexStream, Vec<DuplexStream>) {
 #[tokio::test]
 async fn a_listener_that_waits() {
     let (server, _endings) = telling(1);
-    let (served, mut refused) = full(&server).await;
+    let (first, mut refused) = full(&server).await;
     let listener = TcpListener::bind("127.0.0.1:0").await.unwrap();
     let address = listener.local_addr().unwrap();
     let serving = server.clone();
@@ -98,7 +98,7 @@ async fn a_listener_that_waits() {
     let mut waiting = TcpStream::connect(address).await.unwrap();
     let read = timeout(milliseconds(500), waiting.read_u8()).await;
     assert!(read.is_err(), "it isn't accepted");
-    drop(served);
+    drop(first);
     timeout(peers::PATIENCE, is_served(&mut waiting))
         .await
         .expect("it is served");
