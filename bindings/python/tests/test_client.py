@@ -243,8 +243,6 @@ class Following:
             self.assertEqual(update.data, data)
             self.assertEqual(len(failures), 1, failures)
 
-    @mock.patch("rtr_wire.aio.REPORT_SECONDS", 3600)
-    @mock.patch("rtr_wire.client.REPORT_SECONDS", 3600)
     def test_reports(self):
         """After a refused unit it sends the report that is owed, and nothing after it, and raises
         the fault."""
@@ -262,14 +260,12 @@ class Following:
                 reports.extend(queries)
 
             with Cache(script) as cache, self.assertRaises(refused) as caught:
-                self.fetch(cache)
+                self.fetch(cache, replace(SOON, report_limit=3600))
             self.assertEqual([(report.code, report.enclosed) for report in reports],
                              [(code, about)])
             self.assertEqual((caught.exception.code, caught.exception.unit), (code, about))
             self.assertGreater(len(str(caught.exception)), 5)
 
-    @mock.patch("rtr_wire.aio.REPORT_SECONDS", 3600)
-    @mock.patch("rtr_wire.client.REPORT_SECONDS", 3600)
     def test_floods(self):
         """A cache that floods the connection after a report doesn't keep it for the time of a
         report."""
@@ -281,21 +277,24 @@ class Following:
                 sent[0] += connection.send(bytes(1 << 16))
 
         with Cache(script) as cache, self.assertRaises(UnitTypeError):
-            self.fetch(cache)
+            self.fetch(cache, replace(SOON, report_limit=3600))
         self.assertLess(sent[0], most)
 
     def test_report_time(self):
-        """After a report it reads for two seconds, and then closes."""
-        simulated = Simulated()
-        simulated.cache.sendall(b"\1\5\0\0\0\0\0\10")
-        with simulated.cache as cache, mock.patch("time.monotonic", lambda: simulated.now), \
-                mock.patch("time.sleep", simulated.wait):
-            with self.assertRaises(UnitTypeError):
-                self.fetch_simulated(simulated)
-            self.assertAlmostEqual(simulated.now, 2)
-            with cache.makefile("rb") as file:
-                query, report = units(file)
-        self.assertEqual((query, report.code), (RESET, 5))
+        """After a report it reads for as long as the limit says, by default two seconds, and then
+        closes."""
+        for settings, seconds in ((SOON, 2), (replace(SOON, report_limit=5.5), 5.5),
+                                  (replace(SOON, report_limit=0.01), 0.01)):
+            simulated = Simulated()
+            simulated.cache.sendall(b"\1\5\0\0\0\0\0\10")
+            with simulated.cache as cache, mock.patch("time.monotonic", lambda: simulated.now), \
+                    mock.patch("time.sleep", simulated.wait):
+                with self.assertRaises(UnitTypeError):
+                    self.fetch_simulated(simulated, settings)
+                self.assertAlmostEqual(simulated.now, seconds)
+                with cache.makefile("rb") as file:
+                    query, report = units(file)
+            self.assertEqual((query, report.code), (RESET, 5))
 
     def test_reported(self):
         report = ErrorReport(1, text=b"it rains")
@@ -397,10 +396,6 @@ class Following:
                 with self.assertRaises(ssl.SSLError):
                     self.fetch(cache, context=trusting, host="cache")
 
-
-class Blocking(Following, unittest.TestCase):
-    """Client."""
-
     def test_second_address(self):
         """If only one of two addresses of a host name has a cache, that is used, in either order,
         and no socket of the other stays open."""
@@ -408,16 +403,15 @@ class Blocking(Following, unittest.TestCase):
         for order in ((nobody, here), (here, nobody), (nobody, nobody, here)):
             with Cache(says(RESET, answer(FIRST))) as cache, closes_all(self), \
                     resolved(cache.port, *order) as asked:
-                client = Client("cache.example", cache.port, SOON)
-                self.assertEqual(client.fetch(), FIRST, order)
-                asked.assert_called_once_with("cache.example", cache.port,
-                                              type=socket.SOCK_STREAM)
+                self.assertEqual(self.fetch(cache, host="cache.example"), FIRST, order)
+            (call,) = asked.call_args_list
+            self.assertEqual(call[0][:2], ("cache.example", cache.port))
 
     def test_silent_address(self):
         """An address that accepts a connection, and says nothing to the handshake of TLS, gets its
         share of the time for connecting."""
         with tempfile.TemporaryDirectory() as folder:
-            server, certificate = certified(folder)
+            server, certificate = certified(folder, "DNS:cache.example")
             trusting = ssl.create_default_context(cafile=certificate)
         with Cache(says(RESET, answer(FIRST)), context=server) as cache, closes_all(self), \
                 socket.create_server(("127.0.0.2", cache.port)) as silent, \
@@ -425,9 +419,19 @@ class Blocking(Following, unittest.TestCase):
             late = threading.Timer(60, silent.close)  # which ends the handshake
             late.start()
             settings = replace(SOON, connect_limit=4)
-            self.assertEqual(self.fetch(cache, settings, trusting), FIRST)
+            self.assertEqual(self.fetch(cache, settings, trusting, "cache.example"), FIRST)
             self.assertTrue(late.is_alive())
             late.cancel()
+
+    def test_no_address(self):
+        """If no address answers, the last error is raised."""
+        with closes_all(self), unreachable() as port, resolved(port, "127.0.0.9", "127.0.0.1"), \
+                self.assertRaises(ConnectionRefusedError):
+            self.fetch(mock.Mock(port=port), host="cache.example")
+
+
+class Blocking(Following, unittest.TestCase):
+    """Client."""
 
     def test_shares(self):
         """Each address of a host name gets an equal share of the time that is left, in which the
@@ -476,12 +480,6 @@ class Blocking(Following, unittest.TestCase):
             updates = iter(client)
             self.assertEqual(next(updates).data, FIRST)
             updates.close()
-
-    def test_no_address(self):
-        """If no address answers, the last error is raised."""
-        with closes_all(self), unreachable() as port, resolved(port, "127.0.0.9", "127.0.0.1"), \
-                self.assertRaises(ConnectionRefusedError):
-            Client("cache.example", port, SOON).fetch()
 
     def fetch(self, cache, settings=SOON, context=None, host="127.0.0.1"):
         return Client(host, cache.port, settings, ssl=context).fetch()
@@ -658,19 +656,29 @@ class ForAsyncio(Following, unittest.TestCase):
             self.assertEqual(asyncio.run(follows()).data, data)
         self.assertEqual([repr(error) for error in failures], ["MemoryError('no memory')"])
 
-    def test_silent_address(self):
-        """While an address doesn't answer, the next one is tried too."""
-        with Cache(says(RESET, answer(FIRST))) as cache, \
-                contextlib.ExitStack() as open_sockets, resolved(cache.port, "127.0.0.2",
-                                                                 "127.0.0.1"):
-            listener = socket.create_server(("127.0.0.2", cache.port), backlog=0)
-            open_sockets.enter_context(listener)
-            for _ in range(4):  # more than the system lets wait for this listener
-                waiting = open_sockets.enter_context(socket.socket())
-                waiting.setblocking(False)
-                waiting.connect_ex(listener.getsockname())
-            settings = replace(SOON, connect_limit=60)
-            self.assertEqual(self.fetch(cache, settings, host="cache.example"), FIRST)
+    def test_shares(self):
+        """Each address of a host name gets an equal share of the time that is left."""
+        simulated, tried = Simulated(), []
+
+        async def open_connection(host, port, **_):
+            tried.append((host, port, round(simulated.now, 2)))
+            await asyncio.sleep(1 if host == nobody else 1000)
+            raise ConnectionRefusedError
+
+        nobody, here = "127.0.0.9", "127.0.0.1"
+        client = AsyncClient("cache.example", 9, Settings(0, connect_limit=9))
+        loop = asyncio.SelectorEventLoop(SimulatedSelector(simulated))
+        resolves = mock.AsyncMock(return_value=[(socket.AF_INET, socket.SOCK_STREAM, 6, "", (it, 9))
+                                                for it in (nobody, here, here)])
+        with contextlib.closing(loop), simulated.cache, simulated.client, \
+                mock.patch.object(loop, "getaddrinfo", resolves), \
+                mock.patch("asyncio.open_connection", open_connection), \
+                mock.patch("time.monotonic", lambda: simulated.now), \
+                self.assertRaises(SessionError) as caught:
+            loop.run_until_complete(client.fetch())
+        self.assertEqual(tried, [(nobody, 9, 0), (here, 9, 1), (here, 9, 5)])
+        self.assertEqual(caught.exception.cause, Cause.SLOW)
+        self.assertAlmostEqual(simulated.now, 9, delta=0.02)
 
     def test_cancelled(self):
         """A cancelled task closes its connection."""

@@ -78,7 +78,8 @@ UNBOUNDED = [
 
 # Times in seconds, which may have a fraction.
 TIMES = [(name, lambda it, name=name: Router(Settings(**{name: it})))
-         for name in ("refresh", "retry", "expire", "pause", "connect_limit", "response_limit")]
+         for name in ("refresh", "retry", "expire", "pause", "connect_limit", "response_limit",
+                      "report_limit")]
 
 # The calls that take bytes, with their name.
 BYTES = [
@@ -156,8 +157,12 @@ class Given(unittest.TestCase):
         """Times are rounded to milliseconds, but not from above 0 to 0, and limited to 32 bits."""
         for name, _ in TIMES:
             for seconds, milliseconds in ((0.0004, 1), (0.0016, 2), (1.5, 1500), (1e9, 2**32 - 1)):
-                settings = Settings(**{name: seconds}).for_library(0)
-                self.assertEqual(getattr(settings, name), milliseconds, (name, seconds))
+                settings = Settings(**{name: seconds})
+                if name == "report_limit":
+                    self.assertEqual(settings.report_seconds(), milliseconds / 1000)
+                else:
+                    self.assertEqual(getattr(settings.for_library(0), name), milliseconds,
+                                     (name, seconds))
 
     def test_bytes(self):
         for name, call in BYTES:

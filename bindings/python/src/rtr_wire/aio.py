@@ -3,7 +3,9 @@ asyncio streams."""
 from __future__ import annotations
 
 import asyncio
+import socket
 import ssl as tls
+import time
 from typing import (Any, AsyncGenerator, AsyncIterator, Awaitable, Callable, List, NamedTuple,
                     Optional, Sequence, Tuple, TypeVar, Union)
 
@@ -11,14 +13,11 @@ from ._library import number
 from ._rtr import Cause, rtr_todo
 from .data import Data
 from .group import Decision, Group
-from .loops import (CHUNK, LAST_BYTES, LOOK, REPORT_SECONDS, Asking, Clock, OnFailure, new_router,
-                    strict_names)
+from .loops import (CHUNK, LAST_BYTES, LOOK, Asking, Clock, OnFailure, new_router, seconds_until,
+                    share_ends, strict_names)
 from .router import Close, Connect, Failed, Router, SessionError, Settings, Update
 
 Streams = Tuple[asyncio.StreamReader, asyncio.StreamWriter]
-
-# Seconds without an answer after which the next address of a host name is tried too.
-_NEXT_ADDRESS = 0.25
 
 _Result = TypeVar("_Result")
 
@@ -74,7 +73,7 @@ class AsyncClient(Asking):
         super().__init__()
         self.host, self.port, self.settings = host, number("port", port, 16), settings
         self._ssl, self._failed = strict_names(ssl), failed
-        self._connect = connect if connect is not None else self._over_tcp
+        self._connect = connect
 
     async def fetch(self) -> Data:
         """Asks for all data once, and falls back to the cache's version.
@@ -125,22 +124,38 @@ class AsyncClient(Asking):
                         streams = await self._connected(router, clock)
                     elif isinstance(step, Close):
                         closed, streams = streams, None
-                        await _close_streams(closed, router.output)
+                        await _close_streams(closed, router.output,
+                                             self.settings.report_seconds())
                     else:
                         yield step
             finally:
                 if streams is not None:
                     _abort(streams)
 
-    async def _over_tcp(self) -> Streams:
-        return await asyncio.open_connection(self.host, self.port, ssl=self._ssl,
-                                             happy_eyeballs_delay=_NEXT_ADDRESS)
+    async def _over_tcp(self, seconds: float) -> Streams:
+        """Connects to the first address that answers; each gets its share of the remaining time."""
+        end = time.monotonic() + seconds
+        error: Exception = OSError(f"{self.host} has no address")
+        addresses = await asyncio.get_running_loop().getaddrinfo(
+            self.host, self.port, type=socket.SOCK_STREAM)
+        for index, address in enumerate(addresses):
+            until = share_ends(end, len(addresses) - index)
+            opening = asyncio.open_connection(
+                str(address[4][0]), self.port, family=address[0], ssl=self._ssl,
+                server_hostname=None if self._ssl is None else self.host)
+            try:
+                return await _within(seconds_until(until), opening, _abort)
+            except (OSError, asyncio.TimeoutError) as failed:
+                error = failed
+        raise error
 
     async def _connected(self, router: Router, clock: Clock) -> Optional[Streams]:
         """Opens the streams that the router asks for, and reports them or their failure to the
         router."""
+        seconds = clock.until(router.wakes)
+        opening = self._over_tcp(seconds) if self._connect is None else self._connect()
         try:
-            streams = await _within(clock.until(router.wakes), self._connect(), _abort)
+            streams = await _within(seconds, opening, _abort)
         except (OSError, asyncio.TimeoutError) as error:
             if not clock.is_at(router.wakes):
                 router.lost(error)
@@ -175,14 +190,15 @@ async def _wait(router: Router, clock: Clock, streams: Optional[Streams]) -> Non
             router.lost(error)
 
 
-async def _close_streams(streams: Optional[Streams], last: bytes) -> None:
-    """Sends a last unit, if there is one, lets the cache read it, and closes the connection."""
+async def _close_streams(streams: Optional[Streams], last: bytes, seconds: float) -> None:
+    """Sends a last unit, if there is one, lets the cache read it, both in this time, and closes the
+    connection."""
     if streams is None:
         return
     reader, writer = streams
     try:
         if last:
-            await _within(REPORT_SECONDS, _last(reader, writer, last))
+            await _within(seconds, _last(reader, writer, last))
     except (OSError, asyncio.TimeoutError):
         pass  # the connection is closing anyway
     finally:

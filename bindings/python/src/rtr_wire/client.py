@@ -10,8 +10,8 @@ from typing import Callable, Generator, Iterator, Optional, Union
 from ._library import number
 from ._rtr import Cause
 from .data import Data
-from .loops import (CHUNK, LAST_BYTES, LOOK, REPORT_SECONDS, Asking, Clock, OnFailure, new_router,
-                    strict_names)
+from .loops import (CHUNK, LAST_BYTES, LOOK, Asking, Clock, OnFailure, new_router, seconds_until,
+                    share_ends, strict_names)
 from .router import Close, Connect, Failed, Router, SessionError, Settings, Update
 
 
@@ -97,7 +97,7 @@ class Client(Asking):
                     connection = self._connected(router, clock)
                 elif isinstance(step, Close):
                     closed, connection = connection, None
-                    _close(closed, router.output)
+                    _close(closed, router.output, self.settings.report_seconds())
                 else:
                     yield step
         finally:
@@ -110,15 +110,14 @@ class Client(Asking):
         error: Exception = OSError(f"{self.host} has no address")
         addresses = socket.getaddrinfo(self.host, self.port, type=socket.SOCK_STREAM)
         for index, address in enumerate(addresses):
-            share = (end - time.monotonic()) / (len(addresses) - index)
-            until = time.monotonic() + share
+            until = share_ends(end, len(addresses) - index)
             connection = socket.socket(address[0], address[1])
             try:
-                connection.settimeout(max(share, 0.001))
+                connection.settimeout(seconds_until(until))
                 connection.connect(address[4])
                 if self._ssl is None:
                     return connection
-                connection.settimeout(max(until - time.monotonic(), 0.001))
+                connection.settimeout(seconds_until(until))
                 return self._ssl.wrap_socket(connection, server_hostname=self.host)
             except OSError as failed:
                 connection.close()
@@ -158,20 +157,21 @@ class Client(Asking):
                 router.lost(error)
 
 
-def _close(connection: Optional[socket.socket], last: bytes) -> None:
-    """Sends a last unit, if there is one, lets the cache read it, and closes the connection. Unread
-    bytes of the cache would reset the connection, and the unit might be lost, so they are read."""
+def _close(connection: Optional[socket.socket], last: bytes, seconds: float) -> None:
+    """Sends a last unit, if there is one, lets the cache read it, both in this time, and closes the
+    connection. Unread bytes of the cache would reset the connection, and the unit might be lost, so
+    they are read."""
     if connection is None:
         return
-    end = time.monotonic() + REPORT_SECONDS
+    end = time.monotonic() + seconds
     try:
         if last:
-            connection.settimeout(REPORT_SECONDS)
+            connection.settimeout(seconds_until(end))
             connection.sendall(last)
             connection.shutdown(socket.SHUT_WR)
             left = LAST_BYTES
             while left > 0 and time.monotonic() < end:
-                connection.settimeout(max(end - time.monotonic(), 0.001))
+                connection.settimeout(seconds_until(end))
                 count = len(connection.recv(CHUNK))
                 left = left - count if count else 0
     except OSError:

@@ -13,11 +13,15 @@ from .router import Router, Settings
 OnFailure = Callable[[Exception], Any]
 
 CHUNK = 1 << 16  # the most bytes of one read
-# For a last report to be sent, and read by the cache; the most bytes that are read meanwhile.
-REPORT_SECONDS = _rtr.LAST_REPORT_LIMIT / 1000
+# The most bytes that are read while the cache may read a last report.
 LAST_BYTES = _rtr.LAST_REPORT_BYTES
 LOOK = 0.25  # seconds between two checks whether the caller requests data, or stops the loop
+# The least and the most seconds of a wait: a socket whose timeout is 0 doesn't wait at all, and
+# timers of some systems take no times of many days.
+_LEAST_WAIT = 0.001
 _LONGEST_WAIT = 3600.0
+# Milliseconds by which a timer may end early.
+_EARLY = 10
 
 
 class Clock:
@@ -31,12 +35,23 @@ class Clock:
 
     def until(self, when: int) -> float:
         """Returns the seconds until a time: at least a millisecond, and at most an hour."""
-        left = self._begun + when / 1000 - time.monotonic()
-        return min(max(left, 0.001), _LONGEST_WAIT)
+        return min(seconds_until(self._begun + when / 1000), _LONGEST_WAIT)
 
     def is_at(self, when: int) -> bool:
         """Reports whether it is that time, or so close that a timer for it may have ended."""
-        return self.now() + 10 >= when
+        return self.now() + _EARLY >= when
+
+
+def seconds_until(when: float) -> float:
+    """Returns the seconds until a time of time.monotonic: at least a millisecond."""
+    return max(when - time.monotonic(), _LEAST_WAIT)
+
+
+def share_ends(end: float, addresses: int) -> float:
+    """Returns until when the next of so many addresses of a host name is tried, if all have until
+    `end`: each gets an equal share of the time that is left, as in each language of the library."""
+    now = time.monotonic()
+    return now + (end - now) / addresses
 
 
 def new_router(settings: Settings) -> Router:

@@ -65,6 +65,8 @@ class Settings:
         response_limit: the time limit from a query to its end of data
         most_bytes: the most bytes of an answer's payload units
         most_units: the most payload units of an answer
+        report_limit: for a last report to be sent, and read by the cache. A `Router` leaves it to
+            its host
     """
 
     version: int = _rtr.USUAL_VERSION
@@ -76,6 +78,7 @@ class Settings:
     response_limit: Optional[float] = None
     most_bytes: Optional[int] = None
     most_units: Optional[int] = None
+    report_limit: Optional[float] = None
 
     _TIMES: ClassVar[List[str]] = ["refresh", "retry", "expire", "pause", "connect_limit",
                                    "response_limit"]
@@ -84,16 +87,17 @@ class Settings:
                  retry: Optional[float] = None, expire: Optional[float] = None,
                  pause: Optional[float] = None, connect_limit: Optional[float] = None,
                  response_limit: Optional[float] = None, most_bytes: Optional[int] = None,
-                 most_units: Optional[int] = None) -> None:
+                 most_units: Optional[int] = None, report_limit: Optional[float] = None) -> None:
         self.__dict__.update(
             version=version, refresh=refresh, retry=retry, expire=expire, pause=pause,
             connect_limit=connect_limit, response_limit=response_limit, most_bytes=most_bytes,
-            most_units=most_units)
+            most_units=most_units, report_limit=report_limit)
 
     def for_library(self, chance: int) -> _rtr.rtr_settings:
         """Returns the struct. `chance` is a random number of 16 bits, which spreads the waits of
         routers."""
         settings = _rtr.rtr_settings()
+        self.report_seconds()  # checks it
         CALLS.rtr_settings_usual(settings, _library.octet(self.version))
         for name in self._TIMES:
             seconds = getattr(self, name)
@@ -105,6 +109,12 @@ class Settings:
             settings.most_units = bounded("most_units", self.most_units, 32)
         settings.chance = _library.number("chance", chance, 16)
         return settings
+
+    def report_seconds(self) -> float:
+        """Returns the time for a last report, which the struct doesn't have."""
+        if self.report_limit is None:
+            return _rtr.LAST_REPORT_LIMIT / 1000
+        return milliseconds("report_limit", self.report_limit) / 1000
 
 
 def milliseconds(name: str, seconds: float) -> int:
