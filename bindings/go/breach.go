@@ -154,12 +154,9 @@ type Breach struct {
 	Unit   []byte    // the bytes of the unit that were read
 }
 
-// Error returns the reason, and the type and the version of the unit.
+// Error returns the reason; Unit has the type and the version.
 func (b *Breach) Error() string {
-	if len(b.Unit) < 2 {
-		return "rtr: " + b.Reason.Error()
-	}
-	return fmt.Sprintf("rtr: %v: %v of version %d", b.Reason, Kind(b.Unit[1]), b.Unit[0])
+	return "rtr: " + b.Reason.Error()
 }
 
 // Unwrap returns the reason.

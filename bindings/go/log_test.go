@@ -87,7 +87,7 @@ func TestLogOfFailures(t *testing.T) {
 	ours.has(t, "-4 connected", "-4 asks query=reset query version=1",
 		"0 data session=7 serial=1 version=1 payloads=1",
 		"4 data dropped session=7 serial=1 version=1 payloads=1",
-		"4 failed error=rtr: unit of another session: serial notify of version 1",
+		"4 failed error=rtr: unit of another session",
 		"-4 connected", "-4 asks query=reset query version=1",
 		"0 data session=8 serial=3 version=1 payloads=0")
 }
