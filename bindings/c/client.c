@@ -107,16 +107,23 @@ static void close_socket(struct member *m)
     m->all = m->tried = NULL;
 }
 
+/* Reports whether the time of the address that is being tried is over, and there is another one: the
+ * client itself ends the last attempt. */
+static bool is_late(const struct member *m)
+{
+    return m->tried && m->tried->ai_next && m->tried_until <= now();
+}
+
 /* Tries the next address, for its share of the time that is left for all of them. If none is left,
  * the connection is lost, for this reason. */
 static void try_next(struct member *m, const char *reason)
 {
     for (; m->tried; m->tried = m->tried->ai_next) {
         int type = SOCK_STREAM | SOCK_CLOEXEC | SOCK_NONBLOCK;
-        int64_t count = 0, time = now();
+        size_t count = 0;
         for (struct addrinfo *rest = m->tried; rest; rest = rest->ai_next)
             count++;
-        m->tried_until = time + (m->client.wakes - time) / count;
+        m->tried_until = rtr_client_tried_until(&m->client, now(), count);
         m->socket = socket(m->tried->ai_family, type, 0);
         if (m->socket != NONE
             && (connect(m->socket, m->tried->ai_addr, m->tried->ai_addrlen) == 0
@@ -263,7 +270,7 @@ static void wait_for_all(void)
     for (size_t i = 0; i < group.runs; i++) {
         struct member *m = &members[i];
         bool may = ready[i].fd != NONE && ready[i].revents;
-        if (m->tried && (may || m->tried_until <= now()))
+        if (m->tried && (may || is_late(m)))
             look(m, may);
         else if (may && (!(ready[i].revents & POLLOUT) || send_some(m)))
             receive_some(m);

@@ -30,7 +30,8 @@ static struct member {
     const char *address;
     char *host, *port; /* its parts */
     int socket;
-    struct addrinfo *all, *tried; /* its addresses, and the one that is being tried */
+    struct addrinfo *all, *tried; /* its addresses, and the one that is being tried, also in its
+                                     handshake */
     int64_t tried_until;
     BIO *connection; /* TLS over the socket; null before that is connected */
     bool open;       /* it is established, and TLS hasn't failed */
@@ -70,7 +71,64 @@ static void must(bool done, const char *what)
     }
 }
 
-/* Handles a failed call on the connection: it waits for the socket, or the connection is lost. */
+static void close_connection(struct member *m)
+{
+    BIO_free_all(m->connection);
+    if (m->socket != NONE)
+        close(m->socket);
+    if (m->all)
+        freeaddrinfo(m->all);
+    m->connection = NULL;
+    m->socket = NONE;
+    m->all = m->tried = NULL;
+    m->open = false;
+}
+
+/* Reports whether the time of the address that is being tried is over, and there is another one: the
+ * client itself ends the last attempt. */
+static bool is_late(const struct member *m)
+{
+    return m->tried && m->tried->ai_next && m->tried_until <= now();
+}
+
+/* Tries the next address, for its share of the time that is left for all of them. If none is left,
+ * the connection is lost, for this reason. */
+static void try_next(struct member *m, const char *why)
+{
+    for (; m->tried; m->tried = m->tried->ai_next) {
+        int type = SOCK_STREAM | SOCK_CLOEXEC | SOCK_NONBLOCK;
+        size_t count = 0;
+        for (struct addrinfo *rest = m->tried; rest; rest = rest->ai_next)
+            count++;
+        m->tried_until = rtr_client_tried_until(&m->client, now(), count);
+        m->socket = socket(m->tried->ai_family, type, 0);
+        if (m->socket != NONE
+            && (connect(m->socket, m->tried->ai_addr, m->tried->ai_addrlen) == 0
+                || errno == EINPROGRESS))
+            return;
+        why = strerror(errno);
+        if (m->socket != NONE)
+            close(m->socket);
+        m->socket = NONE;
+    }
+    close_connection(m);
+    rtr_client_lost(&m->client, why);
+}
+
+/* The address being tried failed, for this reason; null means that the cache closed. Tries the next
+ * one. */
+static void skip(struct member *m, const char *why)
+{
+    BIO_free_all(m->connection);
+    m->connection = NULL;
+    close(m->socket);
+    m->socket = NONE;
+    m->tried = m->tried->ai_next;
+    try_next(m, why);
+}
+
+/* Handles a failed call on the connection: it waits for the socket, or the address or the connection
+ * is lost. */
 static void unfinished(struct member *m)
 {
     SSL *tls = NULL;
@@ -83,7 +141,10 @@ static void unfinished(struct member *m)
         why = X509_verify_cert_error_string(SSL_get_verify_result(tls));
     bool closed = !ERR_peek_error() && SSL_get_shutdown(tls) & SSL_RECEIVED_SHUTDOWN;
     m->open = m->open && closed;
-    rtr_client_lost(&m->client, closed ? NULL : why);
+    if (m->tried)
+        skip(m, closed ? NULL : why);
+    else
+        rtr_client_lost(&m->client, closed ? NULL : why);
 }
 
 /* Sends some of the unsent bytes; returns whether the connection is still open. After a failure it
@@ -101,6 +162,13 @@ static bool send_some(struct member *m)
     return m->open;
 }
 
+/* After the handshake the other addresses aren't needed. */
+static void forget_addresses(struct member *m)
+{
+    freeaddrinfo(m->all);
+    m->all = m->tried = NULL;
+}
+
 /* Advances a connection: makes the TLS handshake, or sends and reads. */
 static void go_on(struct member *m)
 {
@@ -108,7 +176,9 @@ static void go_on(struct member *m)
     ERR_clear_error();
     if (!m->open) {
         m->open = BIO_do_handshake(m->connection) == 1 && rtr_client_connected(&m->client);
-        if (!m->open)
+        if (m->open)
+            forget_addresses(m);
+        else
             unfinished(m);
     } else if (send_some(m)) {
         uint8_t *input = rtr_client_room(&m->client, &length);
@@ -141,43 +211,6 @@ static void secure(struct member *m)
     go_on(m);
 }
 
-static void close_connection(struct member *m)
-{
-    BIO_free_all(m->connection);
-    if (m->socket != NONE)
-        close(m->socket);
-    if (m->all)
-        freeaddrinfo(m->all);
-    m->connection = NULL;
-    m->socket = NONE;
-    m->all = m->tried = NULL;
-    m->open = false;
-}
-
-/* Tries the next address, for its share of the time that is left for all of them. If none is left,
- * the connection is lost, for this reason. */
-static void try_next(struct member *m, const char *why)
-{
-    for (; m->tried; m->tried = m->tried->ai_next) {
-        int type = SOCK_STREAM | SOCK_CLOEXEC | SOCK_NONBLOCK;
-        int64_t count = 0, time = now();
-        for (struct addrinfo *rest = m->tried; rest; rest = rest->ai_next)
-            count++;
-        m->tried_until = time + (m->client.wakes - time) / count;
-        m->socket = socket(m->tried->ai_family, type, 0);
-        if (m->socket != NONE
-            && (connect(m->socket, m->tried->ai_addr, m->tried->ai_addrlen) == 0
-                || errno == EINPROGRESS))
-            return;
-        why = strerror(errno);
-        if (m->socket != NONE)
-            close(m->socket);
-        m->socket = NONE;
-    }
-    close_connection(m);
-    rtr_client_lost(&m->client, why);
-}
-
 static void dial(struct member *m)
 {
     struct addrinfo hints = {.ai_socktype = SOCK_STREAM};
@@ -194,16 +227,10 @@ static void look(struct member *m, bool answered)
     socklen_t size = sizeof error;
     if (answered && getsockopt(m->socket, SOL_SOCKET, SO_ERROR, &error, &size) < 0)
         error = errno;
-    if (error) {
-        close(m->socket);
-        m->socket = NONE;
-        m->tried = m->tried->ai_next;
-        try_next(m, strerror(error));
-    } else {
-        freeaddrinfo(m->all);
-        m->all = m->tried = NULL;
+    if (error)
+        skip(m, strerror(error));
+    else
         secure(m);
-    }
 }
 
 /* Waits until a socket is ready, but not after this time, and returns whether it is. A signal
@@ -261,10 +288,10 @@ static void wait_for_all(void)
         struct member *m = &members[i];
         rtr_client_output(&m->client, &length);
         ready[i] = (struct pollfd){m->socket,
-                                   m->tried   ? POLLOUT
-                                   : !m->open ? m->awaited
-                                   : length   ? POLLIN | POLLOUT
-                                              : POLLIN,
+                                   m->tried && !m->connection ? POLLOUT
+                                   : !m->open                 ? m->awaited
+                                   : length                   ? POLLIN | POLLOUT
+                                                              : POLLIN,
                                    0};
         wakes = m->client.wakes < wakes ? m->client.wakes : wakes;
         wakes = m->tried && m->tried_until < wakes ? m->tried_until : wakes;
@@ -273,8 +300,10 @@ static void wait_for_all(void)
     poll(ready, group.runs, left(wakes));
     for (size_t i = 0; i < group.runs; i++) {
         struct member *m = &members[i];
-        if (m->tried && (ready[i].revents || m->tried_until <= now()))
+        if (m->tried && !m->connection && (ready[i].revents || is_late(m)))
             look(m, ready[i].revents);
+        else if (is_late(m))
+            skip(m, strerror(ETIMEDOUT));
         else if (m->connection && (m->open || ready[i].revents))
             go_on(m);
     }

@@ -132,6 +132,11 @@ const uint8_t *rtr_client_changes(struct rtr_client *client, size_t *length);
 const uint8_t *rtr_client_changes_from(struct rtr_client *client, const uint8_t *data,
                                        size_t length, size_t *changes_length);
 
+/* After RTR_CLIENT_CONNECT, returns until when connecting to the next of so many addresses of the
+ * cache's name may take: each gets an equal share of the time that is left, as in each language of
+ * the library; the last has until `wakes`, when RTR_CLIENT_CLOSE follows. */
+int64_t rtr_client_tried_until(const struct rtr_client *client, int64_t now, size_t addresses);
+
 /* The connection is established. Returns false, and does nothing, unless RTR_CLIENT_CONNECT asked
  * for it and nothing else was reported since. */
 bool rtr_client_connected(struct rtr_client *client);

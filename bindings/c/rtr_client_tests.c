@@ -661,8 +661,23 @@ static void test_random(int sessions)
     }
 }
 
+/* The addresses of a name share the time that is left to connect; the last has all of it. */
+static void test_addresses(void)
+{
+    rtr_client_init(&c, 1);
+    c.settings.connect_limit = 9000;
+    CHECK(rtr_client_next(&c, 50) == RTR_CLIENT_CONNECT && c.wakes == 9050);
+    CHECK(rtr_client_tried_until(&c, 50, 3) == 3050);
+    CHECK(rtr_client_tried_until(&c, 1050, 2) == 5050);
+    CHECK(rtr_client_tried_until(&c, 5050, 1) == c.wakes);
+    CHECK(rtr_client_tried_until(&c, 10000, 2) == 10000);
+    CHECK(rtr_client_tried_until(&c, 50, 0) == c.wakes);
+    rtr_client_free(&c);
+}
+
 int main(int count, char **words)
 {
+    test_addresses();
     test_pieces();
     test_failures();
     test_texts();

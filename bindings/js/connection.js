@@ -9,9 +9,16 @@ import { LAST_REPORT_BYTES } from "./rtr_table.js";
 // The most milliseconds that a timer of Node takes: for more it is over at once.
 export const LONGEST_TIMER = 2 ** 31 - 1;
 
+/** Returns the milliseconds that connecting to the next of so many addresses of a host may take, if
+ * all have until `end`: each gets an equal share of the time that is left, as in each language of
+ * the library. */
+export function shareOf(end, addresses) {
+    return (end - performance.now()) / addresses;
+}
+
 /** Opens a connection to the first address of a host that answers, by TCP or, with options of
- * tls.connect, TLS. Each address but the last gets its share of the remaining milliseconds; the
- * signal ends the last attempt.
+ * tls.connect, TLS. Each address gets its share of these milliseconds: that of the last one is the
+ * rest of them, after which the signal ends its attempt.
  *
  * Throws the error of the lookup or of the last address, or the signal's reason after it aborts. */
 export async function opened({ host, port, tls }, { signal, milliseconds }) {
@@ -20,7 +27,7 @@ export async function opened({ host, port, tls }, { signal, milliseconds }) {
     let last = null;
     for (const [index, { address }] of addresses.entries()) {
         const left = addresses.length - index;
-        const share = left > 1 ? (end - performance.now()) / left : null;
+        const share = left > 1 ? shareOf(end, left) : null;
         try {
             return await tried({ address, host, port, tls }, signal, share);
         } catch (error) {

@@ -64,6 +64,21 @@ impl ClientOptions {
     /// report may be lost.
     pub const LAST_BYTES: usize = LAST_REPORT_BYTES;
 
+    /// Returns how long connecting to the next of this many addresses of a host name may take: each
+    /// gets an equal share of the time that is left, as in each language of this library.
+    ///
+    /// ```
+    /// use rtr_wire::ClientOptions;
+    /// use std::time::Duration;
+    ///
+    /// let left = Duration::from_secs(30);
+    /// assert_eq!(ClientOptions::share_of(left, 3).as_secs(), 10);
+    /// ```
+    #[must_use]
+    pub fn share_of(left: Duration, addresses: usize) -> Duration {
+        left / u32::try_from(addresses).unwrap_or(u32::MAX).max(1)
+    }
+
     /// Returns the settings of a router's machine with these options and this random number.
     pub(crate) fn settings(&self, chance: u16) -> Settings {
         let span = |time: Option<Duration>| time.map_or(0, milliseconds);

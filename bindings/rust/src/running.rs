@@ -20,8 +20,8 @@ use std::ops::ControlFlow;
 use std::time::{Duration, Instant};
 use std::vec::Vec;
 
-/// The least time for a connection attempt, even if less is left.
-const LEAST: Duration = Duration::from_millis(100);
+/// The least time for a connection attempt, even if none is left: a socket refuses a time of zero.
+const LEAST: Duration = Duration::from_millis(1);
 
 /// A router, and the start of its clock.
 pub(crate) struct Timed {
@@ -214,16 +214,16 @@ impl<'c> Follower<'c> {
     }
 }
 
-/// Connects over TCP to the first of the addresses that accepts a connection within this time. Each
-/// has an equal share of the time that is left.
+/// Connects over TCP to the first of the addresses that accepts a connection within this time,
+/// which they share.
 pub(crate) fn dial(address: &str, time: Duration) -> io::Result<TcpStream> {
     let until = after(Instant::now(), time);
     let addresses: Vec<SocketAddr> = address.to_socket_addrs()?.collect();
     let mut last = ErrorKind::NotFound.into();
     for (count, address) in (1..=addresses.len()).rev().zip(&addresses) {
         let left = until.saturating_duration_since(Instant::now());
-        let share = left / u32::try_from(count).unwrap_or(u32::MAX);
-        match TcpStream::connect_timeout(address, share.max(LEAST)) {
+        let share = ClientOptions::share_of(left, count).max(LEAST);
+        match TcpStream::connect_timeout(address, share) {
             Ok(stream) => {
                 stream.set_nodelay(true)?;
                 stream.set_nonblocking(true)?;

@@ -174,15 +174,15 @@ impl<S> fmt::Debug for AsyncClient<S> {
     }
 }
 
-/// Connects by TCP to the first of the addresses that accepts it. Each has an equal share of the
-/// time that is left.
+/// Connects by TCP to the first of the addresses that accepts it within this time, which they
+/// share.
 async fn dial(address: String, limit: Duration) -> io::Result<TcpStream> {
     let begun = Instant::now();
     let addresses: Vec<SocketAddr> = lookup_host(address).await?.collect();
     let mut last = ErrorKind::NotFound.into();
     for (count, address) in (1..=addresses.len()).rev().zip(&addresses) {
         let left = limit.saturating_sub(begun.elapsed());
-        let share = left / u32::try_from(count).unwrap_or(u32::MAX);
+        let share = ClientOptions::share_of(left, count);
         match timeout(share, TcpStream::connect(address)).await {
             Ok(Ok(stream)) => {
                 stream.set_nodelay(true)?;
