@@ -176,6 +176,9 @@ func (p *cacheEnd) next() error {
 // the server forgets which ones it left.
 func (p *cacheEnd) update(data Data) error {
 	nowhere := &saver{save: func([]byte) error { return nil }, owns: true}
+	if err := nowhere.begin(); err != nil {
+		return err
+	}
 	if p.server.saver != nil {
 		p.server.saver = nowhere // a file that was restored stays as it is
 	}

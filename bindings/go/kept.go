@@ -28,7 +28,8 @@ var ErrUnsynced = errors.New("rtr: " + failureUnsynced)
 // a restart would lack the sessions that the file names. It is os.ErrExist, too.
 var ErrNotRestored = errors.New("rtr: " + failureNotRestored)
 
-// ErrOtherFile: the server saves its data in another file.
+// ErrOtherFile: the server saves its data in another file than this path names. Paths are compared
+// as absolute paths without . and .., and links as what they are called.
 var ErrOtherFile = errors.New("rtr: " + failureOtherFile)
 
 // notRestored is the error of the system that a file exists, and ErrNotRestored.
@@ -83,7 +84,8 @@ func RetryAfter(previous time.Duration) time.Duration {
 
 // saver saves the stores of a server to a file.
 type saver struct {
-	path string
+	path string // as the caller named the file
+	full string // the absolute path that this was when the file was named, without . and ..
 	save func(store []byte) error
 	owns bool // the server restored the file, or wrote it
 }
@@ -91,6 +93,21 @@ type saver struct {
 // saverTo returns the saver to a file.
 func saverTo(path string) *saver {
 	return &saver{path: path, save: func(store []byte) error { return saveStore(store, path) }}
+}
+
+// begin records which file the path names.
+func (s *saver) begin() (err error) {
+	s.full, err = filepath.Abs(s.path)
+	return err
+}
+
+// is returns an error unless this path names the file now: links count as what they are called.
+func (s *saver) is(path string) error {
+	full, err := filepath.Abs(path)
+	if err == nil && full != s.full {
+		return fmt.Errorf("%s: %w: %s", path, ErrOtherFile, s.full)
+	}
+	return err
 }
 
 // check returns an error if there is a file that the server neither restored nor wrote. It is
@@ -190,6 +207,11 @@ func (s *Server) Restore(path string) (Data, error) {
 		return Data{}, err
 	}
 	os.Remove(path + besideSuffix)
+	saver := saverTo(path)
+	saver.owns = true
+	if err := saver.begin(); err != nil {
+		return Data{}, err
+	}
 	s.ready()
 	s.updating.Lock()
 	defer s.updating.Unlock()
@@ -197,8 +219,7 @@ func (s *Server) Restore(path string) (Data, error) {
 		return Data{}, ErrServerClosed
 	}
 	if s.Data().IsZero() {
-		s.store, s.saver = restored, saverTo(path)
-		s.saver.owns = true
+		s.store, s.saver = restored, saver
 		s.present.Store(s.edition(0))
 		s.wake()
 	}

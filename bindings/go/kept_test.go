@@ -251,6 +251,63 @@ func TestFileBeforeFirstSave(t *testing.T) {
 	}
 }
 
+// inFolder makes a folder the current one, until the test ends.
+func inFolder(t *testing.T, folder string) {
+	t.Helper()
+	before, err := os.Getwd()
+	if err != nil {
+		t.Fatal(err)
+	}
+	if err := os.Chdir(folder); err != nil {
+		t.Fatal(err)
+	}
+	t.Cleanup(func() { os.Chdir(before) })
+}
+
+// A file may be named by any path to it, but not by another link; and a relative path names it only
+// in the folder in which it did at first.
+func TestSpellingsOfOneFile(t *testing.T) {
+	noLeaks(t)
+	folder, all := t.TempDir(), sequences(1, 1, 1, 1)
+	if err := os.Mkdir(folder+"/a", 0o700); err != nil {
+		t.Fatal(err)
+	}
+	if err := os.Symlink("a", folder+"/link"); err != nil {
+		t.Fatal(err)
+	}
+	inFolder(t, folder)
+	saved, _ := restarted(t, "a/kept", all[0])
+	named := NewServer()
+	if err := named.UpdateSaved(parsed(t, all[0]), "./a/named"); err != nil {
+		t.Fatal(err)
+	}
+	for name, server := range map[string]*Server{"kept": saved, "named": named} {
+		same := []string{"a/" + name, "./a//" + name, "a/../a/./" + name, folder + "/a/" + name}
+		for _, path := range same {
+			if err := server.UpdateSaved(parsed(t, all[1]), path); err != nil {
+				t.Errorf("%s: %v", path, err)
+			}
+		}
+		if err := server.UpdateSaved(parsed(t, all[2]), "link/"+name); !errors.Is(err, ErrOtherFile) {
+			t.Error(err)
+		}
+	}
+	inFolder(t, folder+"/a")
+	for name, server := range map[string]*Server{"kept": saved, "named": named} {
+		for _, update := range []func() error{
+			func() error { return server.Update(parsed(t, all[2])) },
+			func() error { return server.UpdateSaved(parsed(t, all[2]), "a/"+name) },
+		} {
+			if err := update(); !errors.Is(err, ErrOtherFile) || server.Data().Serial() != 2 {
+				t.Error(name, err)
+			}
+		}
+		if data, err := NewServer().Restore(name); err != nil || data.Serial() != 2 {
+			t.Error(name, err)
+		}
+	}
+}
+
 // A server saves all its data to one file, which UpdateSaved or Restore named. A refusal changes
 // nothing.
 func TestUpdateSavedOtherFile(t *testing.T) {

@@ -8,7 +8,6 @@ import "C"
 import (
 	"context"
 	"errors"
-	"fmt"
 	"net"
 	"sync"
 	"sync/atomic"
@@ -122,7 +121,8 @@ func (s *Server) Update(data Data) error {
 // calls of Update save to it. So whenever the process ends, the file has every serial number that a
 // client may have data of, and after a restart none of them is used for other data. Restore the
 // file first, if there is one: a file that this server neither restored nor wrote isn't replaced,
-// as one that Restore refused, until it is removed. All data are saved to one file.
+// as one that Restore refused, until it is removed. All data are saved to one file, which further
+// calls may name by another path to it, but not by another link (ErrOtherFile).
 //
 // Errors: those of Update; ErrNotRestored, ErrOtherFile; ErrUnsaved if the server has data that it
 // didn't save.
@@ -201,8 +201,12 @@ func (s *Server) update(data Data, save *saver, before func()) error {
 // file stays named even if saving then fails, since it may have the data nevertheless.
 func (s *Server) begin(save *saver) error {
 	if s.saver != nil {
-		if save != nil && save.path != s.saver.path {
-			return fmt.Errorf("%s: %w: %s", save.path, ErrOtherFile, s.saver.path)
+		named := s.saver.path
+		if save != nil {
+			named = save.path
+		}
+		if err := s.saver.is(named); err != nil {
+			return err
 		}
 		return s.saver.check()
 	}
@@ -210,6 +214,9 @@ func (s *Server) begin(save *saver) error {
 		return nil
 	}
 	if err := s.checkSaved(); err != nil {
+		return err
+	}
+	if err := save.begin(); err != nil {
 		return err
 	}
 	if err := save.check(); err != nil {

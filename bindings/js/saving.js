@@ -1,7 +1,7 @@
 // Files of what a server saves.
 
 import { lstat, open, readFile, rename, rm } from "node:fs/promises";
-import { dirname } from "node:path";
+import { dirname, resolve } from "node:path";
 import { FAILURE_NOT_RESTORED, FAILURE_OTHER_FILE } from "./rtr_table.js";
 
 /** A file has the new data, but its folder couldn't be synced: after a power cut the file may have
@@ -25,7 +25,8 @@ export class NotRestored extends Error {
     }
 }
 
-/** The server saves its data in another file than this `path`. */
+/** The server saves its data in another file than this `path` names. Paths are compared as absolute
+ * paths without . and .., and links as what they are called. */
 export class OtherFile extends Error {
     constructor(path, saved) {
         super(`${path}: ${FAILURE_OTHER_FILE}: ${saved}`);
@@ -38,11 +39,20 @@ const besideOf = (path) => `${path}.new`;
 
 /** The file of a server, to which no other process may write. */
 export class SavedFile {
+    #full; // the absolute path, without . and ..
     #isOwn; // the server restored the file, or wrote it
 
     constructor(path, isOwn = false) {
         this.path = path;
+        this.#full = resolve(path);
         this.#isOwn = isOwn;
+    }
+
+    /** Throws OtherFile unless this path names the file now: links count as what they are called. */
+    checkNamed(path) {
+        if (resolve(path) !== this.#full) {
+            throw new OtherFile(path, this.#full);
+        }
     }
 
     /** Throws NotRestored if there is a file that the server neither restored nor wrote, or the

@@ -42,7 +42,8 @@ export class NotRestored extends Error {
     readonly code: string;
 }
 
-/** The server saves its data in another file. */
+/** The server saves its data in another file than this path names. Paths are compared as absolute
+ * paths without . and .., and links as what they are called. */
 export class OtherFile extends Error {
     /** Of the file that was refused. */
     readonly path: string;
@@ -112,7 +113,8 @@ export class Server {
      * `update` save to it. So whenever the process ends, the file has every serial number that a
      * router may have data of, and after a restart none of them is used for other data. Restore the
      * file first, if there is one: a file that this server neither restored nor wrote isn't
-     * replaced, as one that `restore` refused, until it is removed. All data are saved to one file.
+     * replaced, as one that `restore` refused, until it is removed. All data are saved to one file,
+     * which further calls may name by another path to it, but not by another link.
      *
      * Throws what `update` throws; NotRestored, OtherFile; UpdateError if the server has data that
      * it didn't save. */

@@ -21,7 +21,7 @@ import { Kept } from "./kept.js";
 import { writeStruct } from "./memory.js";
 import { optionsOf, sessionOf, signalOf } from "./options.js";
 import { load } from "./rtr_wire.js";
-import { OtherFile, replace, restored, SavedFile } from "./saving.js";
+import { replace, restored, SavedFile } from "./saving.js";
 import { Served } from "./serving.js";
 import { RouterSocket } from "./socket.js";
 import { Store, UpdateError } from "./store.js";
@@ -258,8 +258,8 @@ export class Server extends EventEmitter {
             const file = new SavedFile(path);
             await file.check();
             this.#file = file;
-        } else if (path !== this.#file.path) {
-            throw new OtherFile(path, this.#file.path);
+        } else {
+            this.#file.checkNamed(path);
         }
     }
 
@@ -289,6 +289,7 @@ export class Server extends EventEmitter {
 
     /** Takes new data, and serves them, once they are saved if there is a file. */
     async #takes(data) {
+        this.#file?.checkNamed(this.#file.path);
         await this.#file?.check();
         const store = this.#storeFor(data);
         if (!store.take(data, Date.now())) {

@@ -93,4 +93,34 @@ export const TESTS = {
             });
         });
     },
+
+    /** A file may be named by any path to it, but not by another link; and a relative path names it
+     * only in the folder in which it did at first. */
+    async takesSpellingsOfOneFile(rtr) {
+        const before = process.cwd();
+        await withFolder(async (folder) => {
+            mkdirSync(join(folder, "a"));
+            symlinkSync("a", join(folder, "link"));
+            const refused = { name: "OtherFile" };
+            for (const begin of [(server) => server.updateSaved(dataOf(rtr, 1, 1), "./a/kept"),
+                (server) => server.restore("a/kept")]) {
+                process.chdir(folder);
+                await withServer(rtr, {}, async (server) => {
+                    await begin(server);
+                    let { serial } = server.data;
+                    for (const path of ["a/kept", "./a//kept", "a/../a/./kept",
+                        join(folder, "a/kept")]) {
+                        serial += 1;
+                        await server.updateSaved(dataOf(rtr, serial, 2), path);
+                    }
+                    const next = dataOf(rtr, serial + 1, 1);
+                    await assert.rejects(server.updateSaved(next, "link/kept"), refused);
+                    process.chdir("a");
+                    await assert.rejects(server.update(next), refused);
+                    await assert.rejects(server.updateSaved(next, "a/kept"), refused);
+                    assert.equal(server.data.serial, serial);
+                });
+            }
+        }).finally(() => process.chdir(before));
+    },
 };

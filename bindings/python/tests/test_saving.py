@@ -482,6 +482,29 @@ class OneFile(Case):
             server.update(data(2, [2]))
             self.assertEqual(Server().restore(path), data(2, [2]))
 
+    def test_spellings_of_one_file(self):
+        """A file may be named by any path to it, but not by another link; and a relative path names
+        it only in the folder in which it did at first."""
+        (self.folder / "a").mkdir()
+        os.symlink("a", self.folder / "link")
+        self.addCleanup(os.chdir, os.getcwd())
+        os.chdir(self.folder)
+        restored, named = Server(), Server()
+        Server().update_saved(data(1, [1]), "a/kept")
+        restored.restore("a/kept")
+        named.update_saved(data(1, [1]), "./a/named")
+        servers = (("kept", restored), ("named", named))
+        for name, server in servers:
+            for path in (f"a/{name}", f"./a//{name}", f"a/../a/./{name}",
+                         self.folder / "a" / name):
+                server.update_saved(data(2, [2]), path)
+            self.assertRaises(OtherFileError, server.update_saved, data(3, [3]), f"link/{name}")
+        os.chdir("a")
+        for name, server in servers:
+            self.assertRaises(OtherFileError, server.update, data(3, [3]))
+            self.assertRaises(OtherFileError, server.update_saved, data(3, [3]), f"a/{name}")
+            self.assertEqual((server.end.serial, Server().restore(name)), (2, data(2, [2])))
+
 
 class Pauses(unittest.TestCase):
     """The pauses before a failed save is retried."""

@@ -18,7 +18,7 @@ from ._rtr import Entry, Named, Step, StoresStatus, TimeRule
 from .data import Data
 from .loops import Clock
 from .serving import CHUNK, Edition, Served, ServerLimits
-from .store import OtherFileError, Path, SavedFile, Store, load, save
+from .store import Path, SavedFile, Store, load, save
 from .units import EndOfData
 
 # A function that is called with the address of a router, and why its connection ended.
@@ -135,7 +135,8 @@ class Server:
         whenever the process ends, and after a restart none of them is used for other data. Restore
         the file first, if there is one: a file that this server neither restored nor wrote isn't
         replaced, as one that `restore` refused, until it is removed. All data are saved to one
-        file. It blocks on the file system.
+        file, which further calls may name by another path to it, but not by another link. It blocks
+        on the file system.
 
         Raises as `update`; a NotRestoredError, which is an OSError, or an OtherFileError; a
         RuntimeError if the server has data that it didn't save.
@@ -218,8 +219,7 @@ class Server:
         replaced. It stays named even if saving then fails, since it may have the data all the
         same."""
         if self._file is not None:
-            if file is not None and file.path != self._file.path:
-                raise OtherFileError(file.path, self._file.path)
+            self._file.check_named(self._file.path if file is None else file.path)
             self._file.check()
         elif file is not None:
             self._check_saved()

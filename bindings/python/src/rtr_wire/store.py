@@ -48,11 +48,12 @@ class NotRestoredError(FileExistsError):
 
 
 class OtherFileError(RuntimeError):
-    """The server saves its data in another file.
+    """The server saves its data in another file than this path names. Paths are compared as absolute
+    paths without `.` and `..`, and links as what they are called.
 
     Attributes:
         path: the file that was refused
-        saved: the file that has the data
+        saved: the absolute path of the file that has the data
     """
 
     def __init__(self, path: str, saved: str) -> None:
@@ -297,7 +298,14 @@ class SavedFile:
 
     def __init__(self, path: Path, is_own: bool = False) -> None:
         self.path = os.fspath(path)
+        self._full = os.path.abspath(path)  # without . and ..
         self._is_own = is_own  # the server restored the file, or wrote it
+
+    def check_named(self, path: str) -> None:
+        """Raises an OtherFileError unless this path names the file now: links count as what they
+        are called."""
+        if os.path.abspath(path) != self._full:
+            raise OtherFileError(path, self._full)
 
     def check(self) -> None:
         """Raises a NotRestoredError if there is a file that the server neither restored nor wrote,
