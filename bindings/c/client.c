@@ -431,15 +431,22 @@ static bool descriptor(const char *word)
     return valid;
 }
 
+/* Parses a version of the protocol: a digit. */
+static bool protocol(const char *word, uint8_t *version)
+{
+    *version = (uint8_t)(word[0] - '0');
+    return word[0] && !word[1] && *version <= RTR_HIGHEST_VERSION;
+}
+
 /* Parses the arguments, and returns how many caches they name, or 0 if they are wrong. */
-static size_t read_words(int words_count, char **words, const char **version)
+static size_t read_words(int words_count, char **words, uint8_t *version)
 {
     size_t count = 0;
     bool understood = true, preferred = false;
     for (int i = 1; i < words_count; i++) {
         bool valued = i + 1 < words_count, prefers = valued && !strcmp(words[i], "--prefer");
         if (!strcmp(words[i], "--version") && valued)
-            *version = words[++i];
+            understood &= protocol(words[++i], version);
         else if (!strcmp(words[i], "--once"))
             once = true;
         else if (!strcmp(words[i], "--json"))
@@ -457,7 +464,7 @@ static size_t read_words(int words_count, char **words, const char **version)
         } else
             understood = false;
     }
-    return understood && strlen(*version) == 1 && strchr("012", **version) ? count : 0;
+    return understood ? count : 0;
 }
 
 /* A signal ends the client. */
@@ -469,7 +476,7 @@ static void end(int number)
 
 int main(int words_count, char **words)
 {
-    const char *version = "1";
+    uint8_t version = RTR_USUAL_VERSION;
     size_t count = read_words(words_count, words, &version);
     if (!count) {
         fprintf(stderr, "usage: client (HOST:PORT | (--prefer HOST:PORT).. | --fd N)\n"
@@ -483,7 +490,7 @@ int main(int words_count, char **words)
 #endif
     settings.empty_is_data = count == 1; /* there is no other cache to ask */
     rtr_group_init(&group, &settings, count, (uint64_t)now());
-    start(0, (uint8_t)(version[0] - '0'));
+    start(0, version);
     signal(SIGINT, once ? SIG_DFL : end);
     signal(SIGTERM, once ? SIG_DFL : end);
     int status = follow();

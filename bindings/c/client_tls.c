@@ -368,7 +368,7 @@ static bool init(struct member *m, const char *address)
     uint16_t *chance = &m->client.settings.chance;
     m->address = address;
     m->socket = NONE;
-    rtr_client_init(&m->client, 1);
+    rtr_client_init(&m->client, RTR_USUAL_VERSION);
     if (getentropy(chance, sizeof *chance) != 0)
         *chance = (uint16_t)(now() ^ getpid());
     return BIO_parse_hostserv(address, &m->host, &m->port, BIO_PARSE_PRIO_HOST) == 1 && m->host

@@ -328,7 +328,7 @@ int main(int count, char **words)
 {
     struct rtr_settings settings;
     char *colon = count > 1 ? strrchr(words[1], ':') : NULL;
-    uint8_t version = count > 2 ? (uint8_t)(words[2][0] - '0') : 1;
+    uint8_t version = count > 2 ? (uint8_t)(words[2][0] - '0') : RTR_USUAL_VERSION;
     if (!colon || count > 3) {
         fprintf(stderr, "usage: link HOST:PORT [0|1|2]\n");
         return 2;

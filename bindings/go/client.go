@@ -11,6 +11,13 @@ import (
 	"time"
 )
 
+// The versions of the protocol: the highest, and that in which a Client asks if no other is set. The
+// lowest is 0.
+const (
+	HighestVersion uint8 = highestVersion
+	UsualVersion   uint8 = usualVersion
+)
+
 // Client is the router's side: it gets the data of a cache, and follows their changes (RFC 8210
 // sections 6 to 8). NewClient(address) is the same as Client{Address: address}.
 type Client struct {

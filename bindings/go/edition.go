@@ -11,7 +11,7 @@ import (
 )
 
 // The number of versions of the protocol.
-const versions = 3
+const versions = highestVersion + 1
 
 // edition is a cache's data at one serial number, with the history in the store that has them;
 // before its first data a cache has an empty one. Immutable, except for caches of encoded answers.

@@ -1,6 +1,8 @@
 package main
 
 import (
+	"fmt"
+
 	"fishreef/programs/internal/payloads"
 	"fishreef/programs/internal/words"
 )
@@ -25,8 +27,8 @@ func (o *options) ofChanges() []words.Option {
 			Set:  words.Yes(&o.once),
 		},
 		{
-			Name: "version", Argument: "0|1|2",
-			Help: "Ask in this protocol version at most (default 2)",
+			Name: "version", Argument: payloads.Versions(),
+			Help: fmt.Sprintf("Ask in this protocol version at most (default %d)", payloads.Version),
 			Set:  payloads.Protocol(&o.version),
 		},
 	}

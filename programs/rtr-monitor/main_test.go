@@ -256,7 +256,7 @@ func TestWrongWords(t *testing.T) {
 		{"a:1 json:", "json: needs a file", words.Usage},
 		{"a:1 json:ftp://b/c", "isn't an http:// or https:// URL", words.Usage},
 		{"a:1 b:1 --grace 10", `--grace: "10" isn't a time`, words.Usage},
-		{"a:1 b:1 --version 3", `--version: "3" isn't a version: 0, 1 or 2`, words.Usage},
+		{"a:1 b:1 --version 3", `--version: "3" isn't a version: 0|1|2`, words.Usage},
 		{"a:1 b:1 --http 80", `--http: "80" isn't ADDRESS:PORT`, words.Usage},
 		{"a:1 ssh:b:1", "ssh:b:1 needs --ssh-user, --ssh-key and --ssh-known-hosts", words.Usage},
 		{"a:1 b:1 --grace 10s --grace 20s", "--grace: it is given twice", words.Usage},

@@ -1,6 +1,7 @@
 package main
 
 import (
+	"fmt"
 	"time"
 
 	"fishreef/programs/internal/payloads"
@@ -17,10 +18,10 @@ func (o *options) ofComparison() []words.Option {
 			Set:  words.Wait(&s.Grace, time.Second),
 		},
 		{
-			Name: "version", Argument: "0|1|2",
-			Help: "Ask caches in this protocol version at most, and compare what " +
-				"it has: 0 only prefixes, 1 also router keys, 2 also ASPAs " +
-				"(default 2)",
+			Name: "version", Argument: payloads.Versions(),
+			Help: fmt.Sprintf("Ask caches in this protocol version at most, and compare what "+
+				"it has: 0 only prefixes, 1 also router keys, 2 also ASPAs "+
+				"(default %d)", payloads.Version),
 			Set: payloads.Protocol(&s.Version),
 		},
 		{

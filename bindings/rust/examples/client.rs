@@ -45,7 +45,9 @@ fn arguments(mut words: impl Iterator<Item = String>) -> Option<Arguments> {
             "--once" => once = true,
             "--json" => json = true,
             "--version" if version.is_none() => {
-                version = Some(words.next()?.parse().ok().filter(|number| *number <= 2)?);
+                let known = 0..=ClientOptions::HIGHEST_VERSION;
+                version = words.next()?.parse().ok();
+                version = Some(version.filter(|number| known.contains(number))?);
             }
             "--prefer" if (prefers || addresses.is_empty()) && addresses.len() < Group::MOST => {
                 prefers = true;
@@ -62,7 +64,7 @@ fn arguments(mut words: impl Iterator<Item = String>) -> Option<Arguments> {
     let are_usable = !addresses.is_empty() && addresses.iter().all(|address| has_port(address));
     are_usable.then_some(Arguments {
         addresses,
-        version: version.unwrap_or(1),
+        version: version.unwrap_or(ClientOptions::default().version),
         once,
         json,
     })

@@ -59,6 +59,9 @@ impl Default for ClientOptions {
 }
 
 impl ClientOptions {
+    /// The highest version of the protocol; the lowest is 0.
+    pub const HIGHEST_VERSION: u8 = HIGHEST_VERSION;
+
     /// The most bytes that a client reads from the cache, and ignores, before it closes a
     /// connection to which it sent a report: one that is closed with unread bytes is reset, and the
     /// report may be lost.

@@ -4,6 +4,7 @@ import (
 	"errors"
 	"fmt"
 	"strconv"
+	"strings"
 
 	"fishreef/programs/internal/beside"
 	"fishreef/programs/internal/words"
@@ -34,12 +35,21 @@ func (r *Reader) Check(given words.Given, files ...File) (err error) {
 	return nil
 }
 
+// Versions returns the versions of the protocol as the argument of an option: 0|1|2.
+func Versions() string {
+	var all []string
+	for version := uint8(0); version <= Version; version++ {
+		all = append(all, strconv.Itoa(int(version)))
+	}
+	return strings.Join(all, "|")
+}
+
 // Protocol is an option whose argument is a version of the protocol, at most Version.
 func Protocol(to *uint8) func(string) error {
 	return func(argument string) error {
 		version, err := strconv.ParseUint(argument, 10, 8)
-		if err != nil || version > Version {
-			return fmt.Errorf("%q isn't a version: 0, 1 or 2", argument)
+		if err != nil || version > uint64(Version) {
+			return fmt.Errorf("%q isn't a version: %s", argument, Versions())
 		}
 		*to = uint8(version)
 		return nil

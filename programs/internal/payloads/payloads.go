@@ -12,7 +12,7 @@ import (
 
 // Version is the version of all data of this package. Caches convert them for clients of lower
 // versions.
-const Version = 2
+const Version = rtr.HighestVersion
 
 // The fixed end of data that all data of this package have until they are served. It is that of
 // rtr_make, so that its output is used as it is.

@@ -44,7 +44,7 @@ func main() {
 
 // arguments parses a command line.
 func arguments(words []string) (opts options, ok bool) {
-	opts.version = 1
+	opts.version = rtr.UsualVersion
 	for alone := false; len(words) > 0; words = words[1:] {
 		switch word := words[0]; {
 		case word == "--once":
@@ -53,7 +53,7 @@ func arguments(words []string) (opts options, ok bool) {
 			opts.json = true
 		case word == "--version" && len(words) > 1:
 			version, err := strconv.ParseUint(words[1], 10, 8)
-			if err != nil || version > 2 {
+			if err != nil || version > uint64(rtr.HighestVersion) {
 				return options{}, false
 			}
 			opts.version = uint8(version)

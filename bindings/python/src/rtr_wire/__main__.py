@@ -29,7 +29,7 @@ import sys
 from typing import Any, List, Optional, TextIO, Tuple
 
 from . import Client, Fault, SessionError, Settings, check, load_data, unit_lines, unit_objects
-from ._rtr import VERSION
+from ._rtr import HIGHEST_VERSION, VERSION
 
 
 def _address(text: str) -> Tuple[str, int]:
@@ -85,7 +85,7 @@ def _arguments(words: Optional[List[str]]) -> argparse.Namespace:
     commands = parser.add_subparsers(dest="command", required=True)
     fetch = commands.add_parser("fetch", allow_abbrev=False)
     fetch.add_argument("address", type=_address, metavar="HOST:PORT")
-    fetch.add_argument("--version", type=int, choices=(0, 1, 2), default=Settings().version,
+    fetch.add_argument("--version", type=int, choices=range(HIGHEST_VERSION + 1), default=Settings().version,
                        action=_Once)
     fetch.add_argument("--tls", action="store_true")
     fetch.add_argument("--ca", metavar="FILE", type=_file, action=_Once)
