@@ -59,24 +59,59 @@ func TestAskNow(t *testing.T) {
 	}
 }
 
-// Without a connection AskNow makes the next one.
+// longest is a retry time that no test waits for.
+const longest = time.Hour
+
+// dialing returns a client of a cache with these connections, in order; a nil is a connection that
+// can't be made, about which dialed is called before the client knows of it. Its waits for a cache
+// that isn't alive are longest.
+func dialing(t *testing.T, dialed func(*Client, net.Conn), all ...func(*net.TCPConn)) *Client {
+	var made []func(*net.TCPConn)
+	for _, one := range all {
+		if one != nil {
+			made = append(made, one)
+		}
+	}
+	client := quick(fakeCache(t, made...))
+	client.Version, client.Retry = 1, longest
+	next := 0
+	client.Dial = func(ctx context.Context, network, address string) (net.Conn, error) {
+		one := all[next]
+		if next++; one == nil {
+			dialed(client, nil)
+			return nil, errBroken
+		}
+		connection, err := new(net.Dialer).DialContext(ctx, network, address)
+		if err != nil {
+			return nil, err
+		}
+		dialed(client, connection)
+		return connection, nil
+	}
+	return client
+}
+
+// Without a connection AskNow makes the next one: at once, where the client would wait for a second,
+// for two, and then for its retry time each time.
 func TestAskNowOffline(t *testing.T) {
 	noLeaks(t)
-	client := quick(fakeCache(t, quiet(t, scene{reset1, full(7, 1)}),
-		quiet(t, scene{asked(1, 7, 1), full(7, 2)}),
-		play(t, nil, scene{asked(1, 7, 2), full(7, 3)})))
-	client.Version, client.Retry = 1, patience
+	client := dialing(t, func(*Client, net.Conn) {}, quiet(t, scene{reset1, full(7, 1)}), nil, nil,
+		nil, nil, play(t, nil, scene{asked(1, 7, 1), full(7, 2)}))
 	ctx, cancel := limited(t)
 	defer cancel()
-	client.Failed = func(error) { client.AskNow() }
+	failures := 0
+	client.Failed = func(error) {
+		failures++
+		client.AskNow()
+	}
 	err := client.Run(ctx, func(update Update) error {
-		if update.Data.Serial() == 3 {
+		if update.Data.Serial() == 2 {
 			return errEnough
 		}
 		return nil
 	})
-	if err != errEnough {
-		t.Fatal(err)
+	if err != errEnough || failures != 5 {
+		t.Fatal(failures, err)
 	}
 }
 
@@ -95,19 +130,19 @@ func (h hasty) Read(bytes []byte) (int, error) {
 }
 
 // A request that comes between the loss of a connection, or a failed dial, and its close makes the
-// next connection.
+// next connection, where the client would wait for its retry time.
 func TestAskNowAtALoss(t *testing.T) {
 	noLeaks(t)
-	client := quick(fakeCache(t, quiet(t, scene{reset1, full(7, 1)}),
-		play(t, nil, scene{asked(1, 7, 1), full(7, 2)})))
-	client.Version, client.Retry = 1, patience
-	dials := 0
-	client.Dial = func(ctx context.Context, network, address string) (net.Conn, error) {
-		if dials++; dials == 2 {
+	ends := func(query []byte) func(*net.TCPConn) { return play(t, nil, scene{query, nil}) }
+	client := dialing(t, func(client *Client, connection net.Conn) {
+		if connection == nil {
 			client.AskNow()
-			return nil, errBroken
 		}
-		connection, err := new(net.Dialer).DialContext(ctx, network, address)
+	}, quiet(t, scene{reset1, full(7, 1)}), nil, nil, nil, ends(asked(1, 7, 1)), ends(reset1),
+		ends(reset1), play(t, nil, scene{reset1, full(7, 2)}))
+	over := client.Dial
+	client.Dial = func(ctx context.Context, network, address string) (net.Conn, error) {
+		connection, err := over(ctx, network, address)
 		if err != nil {
 			return nil, err
 		}
@@ -115,8 +150,85 @@ func TestAskNowAtALoss(t *testing.T) {
 	}
 	if _, failures := follow(t, client, func(update Update) bool {
 		return update.Data.Serial() == 2
-	}); len(failures) != 2 {
+	}); len(failures) != 7 {
 		t.Fatal(texts(failures))
+	}
+}
+
+// wakes starts a wait, lets a request be set before it or while it waits, and checks that it ends.
+func wakes(t *testing.T, before bool, wait func(*askRequest)) {
+	t.Helper()
+	request := new(askRequest)
+	if before {
+		request.set()
+	}
+	ended := make(chan struct{})
+	go func() {
+		wait(request)
+		close(ended)
+	}()
+	for waits := before; !waits; time.Sleep(time.Millisecond) {
+		request.lock.Lock()
+		waits = request.cancel != nil
+		request.lock.Unlock()
+	}
+	if !before {
+		request.set()
+	}
+	select {
+	case <-ended:
+	case <-time.After(patience):
+		t.Fatalf("it waits, though it was asked before: %v", before)
+	}
+	if request.cancel != nil || !request.take() || request.take() {
+		t.Error("the request isn't taken once after the wait")
+	}
+}
+
+// A request ends each kind of wait, be it set before that or during it.
+func TestAskNowInWaits(t *testing.T) {
+	noLeaks(t)
+	ours, theirs := net.Pipe()
+	defer theirs.Close()
+	defer ours.Close()
+	ctx, cancel := context.WithCancel(context.Background())
+	defer cancel()
+	n := &network{clock: newClock(), ctx: ctx, connection: ours}
+	until := n.now() + uint64(longest.Milliseconds())
+	for _, before := range []bool{true, false} {
+		wakes(t, before, func(request *askRequest) {
+			n.askRequest = request
+			if err := n.rest(until); err != nil {
+				t.Error(err)
+			}
+		})
+		wakes(t, before, func(request *askRequest) {
+			n.askRequest = request
+			if count, err := n.read(make([]byte, 1), until); count != 0 || err != nil {
+				t.Error(count, err)
+			}
+		})
+	}
+}
+
+// A request interrupts one wait: none after it was taken, and no second one.
+func TestAskNowInterruptsOnce(t *testing.T) {
+	request, calls := new(askRequest), 0
+	count := func() { calls++ }
+	request.set()
+	request.take()
+	request.setCancel(count)
+	request.setCancel(nil)
+	if calls != 0 {
+		t.Error("a request that was taken interrupts a wait")
+	}
+	request.set()
+	for wait := 0; wait < 2; wait++ {
+		request.setCancel(count)
+		request.setCancel(nil)
+	}
+	if calls != 1 {
+		t.Errorf("it interrupts %d waits", calls)
 	}
 }
 
