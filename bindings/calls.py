@@ -488,8 +488,11 @@ def constants():
 
 @functools.cache
 def failures():
-    """Returns the texts of failures that no call returns: name and text. rtr.h is their table."""
-    return re.findall(r'^#define RTR_(FAILURE_\w+)\s(?:\s*\\\n\s*)?"(.*)"$', page(), re.MULTILINE)
+    """Returns the texts of failures and warnings that no call returns: name and text. rtr.h is their
+    table."""
+    found = re.findall(r'^#define RTR_((?:FAILURE|WARNING)_\w+)((?:[ \\\n]+"[^"\n]*")+)$', page(),
+                       re.MULTILINE)
+    return [(name, "".join(re.findall(r'"(.*?)"', texts))) for name, texts in found]
 
 
 @functools.cache

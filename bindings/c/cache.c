@@ -394,9 +394,7 @@ static void say_data(const char *path)
     say("%s: session %u serial %" PRIu32 ": %zu payload%s", path, server.present.session,
         server.present.serial, server.payloads, server.payloads == 1 ? "" : "s");
     if (!server.present.serial)
-        say("%s: serial number 0: a router that lost its first answer may ask with it, and keep a "
-            "part of the data",
-            path);
+        say("%s: " RTR_WARNING_SERIAL_0, path);
 }
 
 /* Logs why the server refuses data, or what it leaves out. */
@@ -486,8 +484,7 @@ static void save(struct watched *w)
     }
     w->pause = rtr_retry_after(w->pause);
     w->retry = now() + w->pause;
-    say("%s: %s: new data aren't served before they are saved; trying again in %" PRIu32
-        " second%s",
+    say("%s: %s: " RTR_FAILURE_UNSERVED "; trying again in %" PRIu32 " second%s",
         w->kept, strerror(error), w->pause / 1000, w->pause == 1000 ? "" : "s");
 }
 

@@ -114,7 +114,15 @@
 #define RTR_FAILURE_OTHER_FILE "the data are saved in another file"
 #define RTR_FAILURE_UNSYNCED "the folder isn't synced"
 #define RTR_FAILURE_HIGHER_VERSION "the saved data are of a lower version: the data need a new session"
+#define RTR_FAILURE_UNSERVED "new data aren't served before they are saved"
 #define RTR_FAILURE_DAMAGED "the saved file is damaged: the data need a new session"
+
+/* A warning of caches about data of serial number 0: after a cut in the first answer BIRD 2.0 asks
+ * for the changes since that, and keeps the part of the data that it has. */
+#define RTR_WARNING_SERIAL_0 \
+    "serial number 0: a router that lost its first answer may ask with it, and keep a part of " \
+    "the data"
+
 #define RTR_MOST_QUOTED 100 /* the most bytes of a report's text that a failure shows */
 
 #ifdef __cplusplus

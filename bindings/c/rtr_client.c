@@ -422,12 +422,6 @@ static bool in_turn(uint8_t status)
     return status == RTR_LINK_OK;
 }
 
-int64_t rtr_client_tried_until(const struct rtr_client *c, int64_t now, size_t addresses)
-{
-    int64_t left = c->wakes > now ? c->wakes - now : 0;
-    return now + left / (addresses ? (int64_t)addresses : 1);
-}
-
 bool rtr_client_connected(struct rtr_client *c)
 {
     return c->begun && in_turn(rtr_link_opened(&c->link));

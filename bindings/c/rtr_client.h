@@ -135,7 +135,12 @@ const uint8_t *rtr_client_changes_from(struct rtr_client *client, const uint8_t 
 /* After RTR_CLIENT_CONNECT, returns until when connecting to the next of so many addresses of the
  * cache's name may take: each gets an equal share of the time that is left, as in each language of
  * the library; the last has until `wakes`, when RTR_CLIENT_CLOSE follows. */
-int64_t rtr_client_tried_until(const struct rtr_client *client, int64_t now, size_t addresses);
+static inline int64_t rtr_client_tried_until(const struct rtr_client *client, int64_t now,
+                                             size_t addresses)
+{
+    int64_t left = client->wakes > now ? client->wakes - now : 0;
+    return now + left / (addresses ? (int64_t)addresses : 1);
+}
 
 /* The connection is established. Returns false, and does nothing, unless RTR_CLIENT_CONNECT asked
  * for it and nothing else was reported since. */

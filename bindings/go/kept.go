@@ -75,6 +75,9 @@ func (s *Server) Save(path string) error {
 	return saveStore(store, path)
 }
 
+// UnservedText is what a program logs about new data that can't be saved, while it retries that.
+const UnservedText = failureUnserved
+
 // RetryAfter returns how long a program waits before it calls Update again with data that couldn't
 // be saved, where it waited so long before the last time, or 0 at the first: a second, and twice as
 // long each time, up to a minute.

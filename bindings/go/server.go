@@ -269,12 +269,15 @@ func (d Data) servable() error {
 		C.uint32_t(t.Retry), C.uint32_t(t.Expire))))
 }
 
+// SerialZeroText is a warning about data of serial number 0, which a Server logs: after a cut in the
+// first answer BIRD 2.0 asks for the changes since that, and keeps the part of the data that it has.
+const SerialZeroText = warningSerial0
+
 // logs logs new data, and warns of serial number 0.
 func (s *Server) logs(data Data) {
 	s.Log.write(LevelInfo, "data", data.fields()...)
 	if data.Serial() == 0 {
-		s.Log.write(LevelWarn, "serial number 0: a router that lost its first answer may ask with it, "+
-			"and keep a part of the data", "session", data.Session())
+		s.Log.write(LevelWarn, SerialZeroText, "session", data.Session())
 	}
 }
 

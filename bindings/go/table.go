@@ -87,7 +87,9 @@ const (
 	failureOtherFile     = "the data are saved in another file"
 	failureUnsynced      = "the folder isn't synced"
 	failureHigherVersion = "the saved data are of a lower version: the data need a new session"
+	failureUnserved      = "new data aren't served before they are saved"
 	failureDamaged       = "the saved file is damaged: the data need a new session"
+	warningSerial0       = "serial number 0: a router that lost its first answer may ask with it, and keep a part of the data"
 )
 
 // The statuses, with the numbers of rtr.h.

@@ -55,7 +55,9 @@ export const FAILURE_NOT_RESTORED = "the file exists, and wasn't restored";
 export const FAILURE_OTHER_FILE = "the data are saved in another file";
 export const FAILURE_UNSYNCED = "the folder isn't synced";
 export const FAILURE_HIGHER_VERSION = "the saved data are of a lower version: the data need a new session";
+export const FAILURE_UNSERVED = "new data aren't served before they are saved";
 export const FAILURE_DAMAGED = "the saved file is damaged: the data need a new session";
+export const WARNING_SERIAL_0 = "serial number 0: a router that lost its first answer may ask with it, and keep a part of the data";
 
 export const Status = Object.freeze({
     OK: 0,

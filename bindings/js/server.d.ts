@@ -8,6 +8,10 @@ import type { Stream } from "./client.js";
 
 export { Reason, StoresStatus };
 
+/** A warning about data of serial number 0, for logs: after a cut in the first answer BIRD 2.0 asks
+ * for the changes since that, and keeps the part of the data that it has. */
+export const WARNING_SERIAL_0: string;
+
 /** Why a server ended a connection, if the reason isn't an invalid unit (a Fault). */
 export class ServerError extends Error {
     readonly reason: Reason;

@@ -26,7 +26,7 @@ import { Served } from "./serving.js";
 import { RouterSocket } from "./socket.js";
 import { Store, UpdateError } from "./store.js";
 
-export { Reason, StoresStatus } from "./rtr_table.js";
+export { Reason, StoresStatus, WARNING_SERIAL_0 } from "./rtr_table.js";
 export { Behind, Closed, ServerError } from "./faults.js";
 export { NotRestored, OtherFile, Unsynced } from "./saving.js";
 export { UpdateError } from "./store.js";

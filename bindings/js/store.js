@@ -141,6 +141,15 @@ export class Store {
         });
     }
 
+    /** Returns the error for data that the store doesn't take. */
+    #refusal(status, { end: { serial } }) {
+        if (status !== StoresStatus.OLD_SERIAL) {
+            return new UpdateError(status);
+        }
+        const present = this.edition.data.end.serial;
+        return new UpdateError(status, `${REFUSALS[status]}: new ${serial}, present ${present}`);
+    }
+
     /** Takes new data at this time since 1970 in milliseconds. Returns false if the same data are
      * served. New data wait for `saved`, or `giveUp`; call `saved` also if the store isn't saved.
      *
@@ -157,7 +166,7 @@ export class Store {
                 return true;
             }
             if (status !== StoresStatus.SAME_DATA) {
-                throw new UpdateError(status);
+                throw this.#refusal(status, data);
             }
         } catch (error) {
             this.#release(other);

@@ -113,12 +113,21 @@ def letters(fields):
                          for field in fields) + f"0{max(plain, key=struct.calcsize)}"
 
 
+def text_lines(name, text):
+    """Yields the lines of the constant of a text, which is split if it is long."""
+    if len(name) + len(text) <= 92:
+        yield f'{name} = "{text}"'
+        return
+    front, back = text[:text.rindex(" ", 0, 90) + 1], text[text.rindex(" ", 0, 90) + 1:]
+    yield from (f'{name} = (', f'    "{front}"', f'    "{back}")')
+
+
 def module():
     """Returns the content of the module."""
     version, number = calls.version()
     lines = [f'VERSION = "{version}"', f"VERSION_NUMBER = {number}"]
     lines += [f"{name[4:]} = {value}" for name, value, _ in calls.constants()]
-    lines += [f'{name} = "{text}"' for name, text in calls.failures()] + [""]
+    lines += [line for name, text in calls.failures() for line in text_lines(name, text)] + [""]
     for enum in calls.enums():
         lines += enum_lines(enum)
     for structure in calls.structs():

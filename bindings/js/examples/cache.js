@@ -11,7 +11,7 @@ import { open, stat } from "node:fs/promises";
 import { setTimeout as pause } from "node:timers/promises";
 import { parseArgs } from "node:util";
 import { Fault, load } from "../rtr_wire.js";
-import { Server, UpdateError } from "../server.js";
+import { Server, UpdateError, WARNING_SERIAL_0 } from "../server.js";
 
 // Milliseconds between two checks of the file.
 const LOOK = 250;
@@ -72,8 +72,7 @@ function say(line) {
 function sayData(path, { end: { session, serial }, count }) {
     say(`${path}: session ${session} serial ${serial}: ${count} payload${count === 1 ? "" : "s"}`);
     if (serial === 0) {
-        say(`${path}: serial number 0: a router that lost its first answer may ask with it, and `
-            + "keep a part of the data");
+        say(`${path}: ${WARNING_SERIAL_0}`);
     }
 }
 

@@ -399,8 +399,10 @@ export const TESTS = {
             const timed = (serial, times) => rtr.loadData(
                 Buffer.concat([prefix(1), end(serial, 7, times)])).data;
             for (const [data, text] of [
-                [dataOf(rtr, 2, 2), "the serial number isn't later than that of the present data"],
-                [dataOf(rtr, 1, 2), "the serial number isn't later than that of the present data"],
+                [dataOf(rtr, 2, 2), "the serial number isn't later than that of the present data: "
+                    + "new 2, present 2"],
+                [dataOf(rtr, 1, 2), "the serial number isn't later than that of the present data: "
+                    + "new 1, present 2"],
                 [timed(2, [3600, 600, 7300]),
                     "only the times differ from those of the present data"],
                 [timed(3, [0, 600, 7200]), "the refresh time has to be 1 to 86400 seconds"],

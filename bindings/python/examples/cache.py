@@ -12,7 +12,8 @@ import socket
 import sys
 from typing import Optional, Tuple
 
-from rtr_wire import DamagedError, Data, Fault, Server, UpdateError, load_data, retry_after
+from rtr_wire import (WARNING_SERIAL_0, DamagedError, Data, Fault, Server, UpdateError, load_data,
+                      retry_after)
 
 LOOK = 0.25  # seconds between two checks of the file
 
@@ -27,8 +28,7 @@ def say_served(name: str, data: Data) -> None:
     payloads = "payload" if len(data) == 1 else "payloads"
     say(f"{name}: session {data.session} serial {data.serial}: {len(data)} {payloads}")
     if data.serial == 0:
-        say(f"{name}: serial number 0: a router that lost its first answer may ask with it, and "
-            "keep a part of the data")
+        say(f"{name}: {WARNING_SERIAL_0}")
 
 
 def take(server: Server, path: str, content: bytes) -> bool:

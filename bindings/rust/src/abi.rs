@@ -97,8 +97,12 @@ pub(crate) mod failure {
         "the folder isn't synced";
     pub(crate) const HIGHER_VERSION: &str =
         "the saved data are of a lower version: the data need a new session";
+    pub(crate) const UNSERVED: &str =
+        "new data aren't served before they are saved";
     pub(crate) const DAMAGED: &str =
         "the saved file is damaged: the data need a new session";
+    pub(crate) const WARNING_SERIAL_0: &str =
+        "serial number 0: a router that lost its first answer may ask with it, and keep a part of the data";
 }
 
 /// The result of a call; each call below lists the statuses that it returns. The faults of a unit

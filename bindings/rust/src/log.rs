@@ -1,5 +1,6 @@
 //! Log lines of clients and caches.
 
+use crate::abi::failure;
 use crate::owned_data::Data;
 use crate::router::Event;
 #[cfg(feature = "std")]
@@ -53,8 +54,7 @@ impl Data {
         self.log(log, &[]);
         let end = self.end();
         if end.serial == 0 {
-            let text = "serial number 0: a router that lost its first answer may ask with it, and \
-                        keep a part of the data";
+            let text = failure::WARNING_SERIAL_0;
             log(LogLevel::Warn, text, &[("session", &end.session)]);
         }
     }

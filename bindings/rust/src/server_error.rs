@@ -208,7 +208,7 @@ impl fmt::Display for UpdateError {
             UpdateError::SessionLeft => f.write_str(failure::SESSION_LEFT),
             UpdateError::OtherSession => f.write_str(failure::OTHER_SESSION),
             UpdateError::HigherVersion => f.write_str(failure::HIGHER_VERSION),
-            UpdateError::NotSaved(error) => write!(f, "the data aren't saved: {error}"),
+            UpdateError::NotSaved(error) => write!(f, "{}: {error}", failure::UNSERVED),
         }
     }
 }

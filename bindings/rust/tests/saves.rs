@@ -238,7 +238,7 @@ fn saves_that_fail() {
         let slept = before.slept_until(Stamp::now());
         assert!(slept < milliseconds(900), "it waits: {slept:?}");
         assert_eq!(error, refused);
-        let text = format!("the data aren't saved: {failure}");
+        let text = format!("new data aren't served before they are saved: {failure}");
         assert_eq!(error.unwrap_err().to_string(), text);
         assert_eq!(server.end(), Some(data(1).end()));
     }

@@ -211,8 +211,8 @@ type waiting struct {
 func (c *Cache) await(data waiting) {
 	c.lock.Lock()
 	defer c.lock.Unlock()
-	line := fmt.Sprintf("%s: new data aren't served before they are saved: %v; trying again in %v",
-		c.settings.State, data.reason, data.retry.pause)
+	line := fmt.Sprintf("%s: %s: %v; trying again in %v",
+		c.settings.State, rtr.UnservedText, data.reason, data.retry.pause)
 	if c.waits == nil {
 		c.log.Error(line)
 	} else {

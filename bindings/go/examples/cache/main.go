@@ -145,8 +145,7 @@ func sayServed(path string, data rtr.Data) {
 	say(fmt.Sprintf("%s: session %d serial %d: %s",
 		path, data.Session(), data.Serial(), payloads(data.Len())))
 	if data.Serial() == 0 {
-		say(path, ": serial number 0: a router that lost its first answer may ask with it, and "+
-			"keep a part of the data")
+		say(path, ": "+rtr.SerialZeroText)
 	}
 }
 

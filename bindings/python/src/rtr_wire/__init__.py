@@ -58,8 +58,8 @@ import importlib
 from typing import TYPE_CHECKING, Any
 
 from ._rtr import VERSION as __version__
-from ._rtr import (Cause, ErrorCode, Kind, Mismatch, PrefixRule, Reason, Rule, SerialOrder, Side,
-                   Status, StoresStatus, TimeRule, Validity)
+from ._rtr import (WARNING_SERIAL_0, Cause, ErrorCode, Kind, Mismatch, PrefixRule, Reason, Rule,
+                   SerialOrder, Side, Status, StoresStatus, TimeRule, Validity)
 from .checking import Finding, check
 from .client import Client
 from .data import Changes, Covering, Data, Loaded, load_data
@@ -96,18 +96,19 @@ else:
 
 __all__ = [
     "AnyUnit", "Aspa", "AsyncClient", "BehindError", "CacheReset", "CacheResponse", "Cause",
-    "Changes", "Client", "Close", "Connect", "Covering", "DamagedError", "Data", "DuplicateError",
-    "EmptyProvidersError", "EndOfData", "ErrorCode", "ErrorReport", "Failed", "Fault", "Finding",
-    "IPv4Prefix", "IPv6Prefix", "Kind", "Loaded", "Mismatch", "NoData", "NoFormError",
-    "NoIndexError", "NoPayloads", "NoRoomError", "Normalised", "NotCanonicalError",
-    "NotRestoredError", "OldSerialError", "OtherFileError", "OtherSessionError",
-    "OtherVersionError", "Payload", "Prefix", "PrefixError", "PrefixRule", "Reason",
-    "ReportInsideError", "ResetInsideError", "ResetQuery", "Router", "RouterKey", "Rule",
-    "SerialNotify", "SerialOrder", "SerialQuery", "Server", "ServerClosed", "ServerError",
-    "ServerLimits", "SessionError", "Settings", "ShortError", "Side", "Status", "StoresStatus",
-    "TimeRule", "TooLongError", "TooManyError", "UndecidedError", "Unit", "UnitLengthError",
-    "UnitTypeError", "UnitVersionError", "Units", "UnknownError", "UnsyncedError", "Update",
-    "UpdateError", "Validity", "Vrp", "__version__", "change_json", "change_line", "check",
-    "follow", "load_data", "normalise", "retry_after", "same_meaning", "serial_order",
-    "unit_lines", "unit_objects", "units", "version_has",
+    "Changes", "Client", "Close", "Connect", "Covering", "DamagedError", "Data",
+    "DuplicateError", "EmptyProvidersError", "EndOfData", "ErrorCode", "ErrorReport", "Failed",
+    "Fault", "Finding", "IPv4Prefix", "IPv6Prefix", "Kind", "Loaded", "Mismatch", "NoData",
+    "NoFormError", "NoIndexError", "NoPayloads", "NoRoomError", "Normalised",
+    "NotCanonicalError", "NotRestoredError", "OldSerialError", "OtherFileError",
+    "OtherSessionError", "OtherVersionError", "Payload", "Prefix", "PrefixError", "PrefixRule",
+    "Reason", "ReportInsideError", "ResetInsideError", "ResetQuery", "Router", "RouterKey",
+    "Rule", "SerialNotify", "SerialOrder", "SerialQuery", "Server", "ServerClosed",
+    "ServerError", "ServerLimits", "SessionError", "Settings", "ShortError", "Side", "Status",
+    "StoresStatus", "TimeRule", "TooLongError", "TooManyError", "UndecidedError", "Unit",
+    "UnitLengthError", "UnitTypeError", "UnitVersionError", "Units", "UnknownError",
+    "UnsyncedError", "Update", "UpdateError", "Validity", "Vrp", "WARNING_SERIAL_0",
+    "__version__", "change_json", "change_line", "check", "follow", "load_data", "normalise",
+    "retry_after", "same_meaning", "serial_order", "unit_lines", "unit_objects", "units",
+    "version_has",
 ]

@@ -61,7 +61,11 @@ FAILURE_NOT_RESTORED = "the file exists, and wasn't restored"
 FAILURE_OTHER_FILE = "the data are saved in another file"
 FAILURE_UNSYNCED = "the folder isn't synced"
 FAILURE_HIGHER_VERSION = "the saved data are of a lower version: the data need a new session"
+FAILURE_UNSERVED = "new data aren't served before they are saved"
 FAILURE_DAMAGED = "the saved file is damaged: the data need a new session"
+WARNING_SERIAL_0 = (
+    "serial number 0: a router that lost its first answer may ask with it, and keep a part of "
+    "the data")
 
 
 class Status(enum.IntEnum):
