@@ -38,11 +38,12 @@
 #include "rtr_cache.h"
 
 /* Times in milliseconds: between two checks of the file, before accepting again after a failure,
- * and before data are taken again for which there was no memory. */
+ * which would take the processor, and before data are taken again for which there was no memory. */
 enum { LOOK = 250, REST = 100, LATER = 1000 };
 
-/* The most listeners; events per wait; answers to a connection before the others get their turn;
- * sizes of send buffers, and of blocks that are mapped; and the longest file. */
+/* The most listeners; events per wait; answers to a connection before the others get their turn, so
+ * that one that never waits stops no other; sizes of send buffers, with which the system keeps no
+ * more for a slow router, and of blocks that are mapped; and the longest file. */
 enum { LISTENERS = 16, EVENTS = 64, TURNS = 64, BUFFER = 1 << 17, MAPPED = 1 << 16 };
 static const off_t most_bytes = 1 << 28;
 

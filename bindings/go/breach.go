@@ -253,9 +253,12 @@ func sendLast(connection net.Conn, last []byte, patience time.Duration) {
 	discard(connection, lastReportBytes)
 }
 
+// How many bytes are dropped at a time: a page of memory, since few come after a last report.
+const discardBuffer = 1 << 12
+
 // discard reads and drops bytes until the end of the connection, at most this number.
 func discard(connection net.Conn, most int) {
-	buffer := make([]byte, 4096)
+	buffer := make([]byte, discardBuffer)
 	for most > 0 {
 		n, err := connection.Read(buffer)
 		if err != nil {

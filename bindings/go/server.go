@@ -292,7 +292,10 @@ func (s *Server) wake() {
 	s.left.Broadcast()
 }
 
-// How many errors of a listener in a row are tolerated, and the pause after one.
+// How many errors of a listener in a row are tolerated, and the pause after one, in which a listener
+// that fails at once would take the processor. One that fails for a fifth of a second isn't taken to
+// recover, and Serve returns, so that its caller can listen anew. These are of this host alone: no
+// router sees them.
 const (
 	mostFailures = 10
 	pause        = 20 * time.Millisecond
@@ -381,7 +384,8 @@ func hasSpare() bool {
 	return true
 }
 
-// The size of a connection's send buffer: with a smaller one a goroutine waits more often.
+// The size of a connection's send buffer: with a smaller one a goroutine waits more often, and with a
+// larger one a slow router costs more memory of the system. It is the same in C, Rust and Python.
 const writeBuffer = 1 << 17
 
 // take serves a client in its own goroutine, or refuses it.

@@ -31,10 +31,10 @@ type served struct {
 	newest  *edition             // the latest edition that was checked
 	reply   reply                // what is being sent
 	input   []byte               // received and not handled; in buffer, if it fits
-	buffer  [64]byte
-	offset  int64 // of the input in all received bytes
-	closed  bool  // the client has closed: no more bytes come
-	broken  error // why nothing can be sent any more
+	buffer  [64]byte             // several queries fit: longer units, as reports, get memory of their own
+	offset  int64                // of the input in all received bytes
+	closed  bool                 // the client has closed: no more bytes come
+	broken  error                // why nothing can be sent any more
 
 	lock    sync.Mutex
 	woken   bool   // there may be a newer edition, or the server is closed

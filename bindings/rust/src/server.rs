@@ -29,11 +29,14 @@ use std::vec::Vec;
 #[path = "cache_end.rs"]
 mod cache_end;
 
-/// The size of a client's send buffer in the system, in bytes.
+/// The size of a client's send buffer in the system, in bytes: with a larger one a slow client costs
+/// more memory. It is the same in C, Go and Python.
 const UNSENT: i32 = 1 << 17;
-/// How many clients are accepted in a row, before the others are served again.
+/// How many clients are accepted in a row, before the others are served again: so that many that
+/// connect at once stop none.
 const MOST_TAKEN: usize = 64;
-/// How long accepting pauses, in milliseconds, after the system had no descriptor left.
+/// How long accepting pauses, in milliseconds, after the system had no descriptor left: a listener
+/// that fails at once would take the processor. It is the same in C.
 const PAUSE: u64 = 100;
 
 /// The state that a server's thread shares with its callers.

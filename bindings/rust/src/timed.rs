@@ -12,6 +12,9 @@ use std::sync::Mutex;
 use std::time::{Duration, Instant};
 use std::vec::Vec;
 
+/// How many bytes are discarded at a time: a page of memory, since few come after a last report.
+const DISCARDED: usize = 1 << 12;
+
 /// How long a thread waits at most if it can't be woken: the system had no descriptor left.
 pub(crate) const TICK: Duration = Duration::from_millis(100);
 
@@ -122,7 +125,7 @@ pub(crate) fn send_last(mut socket: impl Socket, bytes: &[u8], until: Instant, s
 /// it, so it reads what the peer sends until that closes.
 fn close(mut socket: impl Socket, until: Instant, stop: &Stop) {
     let _ = socket.finish();
-    let (mut bytes, mut buffer) = (0, [0; 4096]);
+    let (mut bytes, mut buffer) = (0, [0; DISCARDED]);
     while bytes < LAST_REPORT_BYTES && !stop.is_set() && !left(until).is_zero() {
         match socket.read(&mut buffer) {
             Ok(0) => return,

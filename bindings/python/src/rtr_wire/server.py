@@ -24,10 +24,14 @@ from .units import EndOfData
 # A function that is called with the address of a router, and why its connection ended.
 OnEnd = Callable[[Any, Exception], Any]
 
-# The size of a connection's send buffer: the system buffers no more for a slow router.
+# The size of a connection's send buffer: the system buffers no more for a slow router. It is the
+# same in C, Go and Rust.
 _SEND_BUFFER = 1 << 17
 
-# How many errors of a listener in a row are tolerated, and the pause after one in seconds.
+# How many errors of a listener in a row are tolerated, and the pause after one in seconds, in which a
+# listener that fails at once would take the processor. One that fails for a fifth of a second isn't
+# taken to recover, and `serve` raises, so that its caller can listen anew. The same as in Go; no
+# router sees them.
 _MOST_FAILURES = 10
 _PAUSE = 0.02
 

@@ -10,6 +10,9 @@ use std::time::Duration;
 use tokio::io::{AsyncRead, AsyncWrite, ReadBuf};
 use tokio::time::{sleep, Sleep};
 
+/// How many bytes are discarded at a time: a page of memory, since few come after a last report.
+const DISCARDED: usize = 1 << 12;
+
 /// A connection that sends its last bytes and is then closed.
 pub(crate) struct Closing<S> {
     open: Open<S>,
@@ -54,7 +57,7 @@ impl<S: AsyncRead + AsyncWrite + Unpin> Closing<S> {
             self.is_shut = true;
         }
         while self.discarded < ClientOptions::LAST_BYTES {
-            let mut bytes = [0; 4096];
+            let mut bytes = [0; DISCARDED];
             let mut buffer = ReadBuf::new(&mut bytes);
             if stream.as_mut().poll_read(cx, &mut buffer)?.is_pending() {
                 return Poll::Pending;
