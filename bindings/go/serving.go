@@ -31,7 +31,7 @@ type served struct {
 	newest  *edition             // the latest edition that was checked
 	reply   reply                // what is being sent
 	input   []byte               // received and not handled; in buffer, if it fits
-	buffer  [64]byte             // several queries fit: longer units, as reports, get memory of their own
+	buffer  [64]byte             // fits queries; longer units get other memory
 	offset  int64                // of the input in all received bytes
 	closed  bool                 // the client has closed: no more bytes come
 	broken  error                // why nothing can be sent any more
