@@ -31,8 +31,9 @@ func waitsForLock() bool {
 	return false
 }
 
-// takes checks that a call waits for a lock that another goroutine has, and ends without it.
-func takes(t *testing.T, name string, lock *sync.Mutex, call func()) {
+// takes checks that a call waits for a lock that another goroutine has, and ends once it can have
+// it; and calls these functions while it waits.
+func takes(t *testing.T, name string, lock *sync.Mutex, call func(), meanwhile ...func()) {
 	t.Helper()
 	done := make(chan struct{})
 	lock.Lock()
@@ -49,6 +50,9 @@ func takes(t *testing.T, name string, lock *sync.Mutex, call func()) {
 			t.Errorf("%s neither ends nor waits", name)
 			break
 		}
+	}
+	for _, one := range meanwhile {
+		one()
 	}
 	lock.Unlock()
 	<-done
@@ -116,10 +120,14 @@ func TestLocks(t *testing.T) {
 		{"noteChanges", &data.lookup.lock, func() { data.lookup.noteChanges(nil, nil) }},
 		{"changesFrom", &data.lookup.lock, func() { data.lookup.changesFrom(nil) }},
 		{"Changes", &update.changes.lock, func() { update.Changes() }},
-		{"Shutdown", &server.lock, func() { server.Shutdown(ended) }},
 	} {
 		takes(t, row.name, row.lock, row.call)
 	}
+	takes(t, "Shutdown", &server.lock, func() { server.Shutdown(ended) }, func() {
+		if server.closed.Load() {
+			t.Error("a server is closed without the lock")
+		}
+	})
 }
 
 // A restored file, and the end of a client, change a server under its locks.

@@ -202,7 +202,10 @@ func TestServerUpdate(t *testing.T) {
 	send(t, connection, asked(1, 0))
 	expect(t, connection, join(response(1, 7), ipv4, ending(1, 7, 0xffffffff)))
 	for _, serial := range []uint32{0xffffffff, 0xfffffffe, 0x7fffffff} {
-		if err := server.Update(parsed(t, ending(1, 7, serial))); !errors.Is(err, ErrSameSerial) {
+		err := server.Update(parsed(t, ending(1, 7, serial)))
+		expected := fmt.Sprintf("rtr: the serial number isn't later than that of the present data: "+
+			"new %d, present 4294967295", serial)
+		if !errors.Is(err, ErrSameSerial) || err.Error() != expected {
 			t.Fatal(serial, err)
 		}
 	}
