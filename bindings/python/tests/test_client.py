@@ -407,6 +407,10 @@ class Following:
             (call,) = asked.call_args_list
             self.assertEqual(call[0][:2], ("cache.example", cache.port))
 
+
+class Blocking(Following, unittest.TestCase):
+    """Client."""
+
     def test_silent_address(self):
         """An address that accepts a connection, and says nothing to the handshake of TLS, gets its
         share of the time for connecting."""
@@ -428,10 +432,6 @@ class Following:
         with closes_all(self), unreachable() as port, resolved(port, "127.0.0.9", "127.0.0.1"), \
                 self.assertRaises(ConnectionRefusedError):
             self.fetch(mock.Mock(port=port), host="cache.example")
-
-
-class Blocking(Following, unittest.TestCase):
-    """Client."""
 
     def test_shares(self):
         """Each address of a host name gets an equal share of the time that is left, in which the
@@ -656,29 +656,19 @@ class ForAsyncio(Following, unittest.TestCase):
             self.assertEqual(asyncio.run(follows()).data, data)
         self.assertEqual([repr(error) for error in failures], ["MemoryError('no memory')"])
 
-    def test_shares(self):
-        """Each address of a host name gets an equal share of the time that is left."""
-        simulated, tried = Simulated(), []
-
-        async def open_connection(host, port, **_):
-            tried.append((host, port, round(simulated.now, 2)))
-            await asyncio.sleep(1 if host == nobody else 1000)
-            raise ConnectionRefusedError
-
-        nobody, here = "127.0.0.9", "127.0.0.1"
-        client = AsyncClient("cache.example", 9, Settings(0, connect_limit=9))
-        loop = asyncio.SelectorEventLoop(SimulatedSelector(simulated))
-        resolves = mock.AsyncMock(return_value=[(socket.AF_INET, socket.SOCK_STREAM, 6, "", (it, 9))
-                                                for it in (nobody, here, here)])
-        with contextlib.closing(loop), simulated.cache, simulated.client, \
-                mock.patch.object(loop, "getaddrinfo", resolves), \
-                mock.patch("asyncio.open_connection", open_connection), \
-                mock.patch("time.monotonic", lambda: simulated.now), \
-                self.assertRaises(SessionError) as caught:
-            loop.run_until_complete(client.fetch())
-        self.assertEqual(tried, [(nobody, 9, 0), (here, 9, 1), (here, 9, 5)])
-        self.assertEqual(caught.exception.cause, Cause.SLOW)
-        self.assertAlmostEqual(simulated.now, 9, delta=0.02)
+    def test_silent_address(self):
+        """While an address doesn't answer, the next one is tried too."""
+        with Cache(says(RESET, answer(FIRST))) as cache, \
+                contextlib.ExitStack() as open_sockets, resolved(cache.port, "127.0.0.2",
+                                                                 "127.0.0.1"):
+            listener = socket.create_server(("127.0.0.2", cache.port), backlog=0)
+            open_sockets.enter_context(listener)
+            for _ in range(4):  # more than the system lets wait for this listener
+                waiting = open_sockets.enter_context(socket.socket())
+                waiting.setblocking(False)
+                waiting.connect_ex(listener.getsockname())
+            settings = replace(SOON, connect_limit=60)
+            self.assertEqual(self.fetch(cache, settings, host="cache.example"), FIRST)
 
     def test_cancelled(self):
         """A cancelled task closes its connection."""

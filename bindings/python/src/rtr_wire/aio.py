@@ -3,7 +3,6 @@ asyncio streams."""
 from __future__ import annotations
 
 import asyncio
-import socket
 import ssl as tls
 import time
 from typing import (Any, AsyncGenerator, AsyncIterator, Awaitable, Callable, List, NamedTuple,
@@ -13,11 +12,15 @@ from ._library import number
 from ._rtr import Cause, rtr_todo
 from .data import Data
 from .group import Decision, Group
-from .loops import (CHUNK, LAST_BYTES, LOOK, Asking, Clock, OnFailure, new_router, seconds_until,
-                    share_ends, strict_names)
+from .loops import (CHUNK, LAST_BYTES, LOOK, Asking, Clock, OnFailure, new_router,
+                    strict_names)
 from .router import Close, Connect, Failed, Router, SessionError, Settings, Update
 
 Streams = Tuple[asyncio.StreamReader, asyncio.StreamWriter]
+
+# Seconds without an answer after which the next address of a host name is tried too: the delay that
+# RFC 8305 section 5 recommends.
+_NEXT_ADDRESS = 0.25
 
 _Result = TypeVar("_Result")
 
@@ -73,7 +76,7 @@ class AsyncClient(Asking):
         super().__init__()
         self.host, self.port, self.settings = host, number("port", port, 16), settings
         self._ssl, self._failed = strict_names(ssl), failed
-        self._connect = connect
+        self._connect = connect if connect is not None else self._over_tcp
 
     async def fetch(self) -> Data:
         """Asks for all data once, and falls back to the cache's version.
@@ -132,30 +135,15 @@ class AsyncClient(Asking):
                 if streams is not None:
                     _abort(streams)
 
-    async def _over_tcp(self, seconds: float) -> Streams:
-        """Connects to the first address that answers; each gets its share of the remaining time."""
-        end = time.monotonic() + seconds
-        error: Exception = OSError(f"{self.host} has no address")
-        addresses = await asyncio.get_running_loop().getaddrinfo(
-            self.host, self.port, type=socket.SOCK_STREAM)
-        for index, address in enumerate(addresses):
-            until = share_ends(end, len(addresses) - index)
-            opening = asyncio.open_connection(
-                str(address[4][0]), self.port, family=address[0], ssl=self._ssl,
-                server_hostname=None if self._ssl is None else self.host)
-            try:
-                return await _within(seconds_until(until), opening, _abort)
-            except (OSError, asyncio.TimeoutError) as failed:
-                error = failed
-        raise error
+    async def _over_tcp(self) -> Streams:
+        return await asyncio.open_connection(self.host, self.port, ssl=self._ssl,
+                                             happy_eyeballs_delay=_NEXT_ADDRESS)
 
     async def _connected(self, router: Router, clock: Clock) -> Optional[Streams]:
         """Opens the streams that the router asks for, and reports them or their failure to the
         router."""
-        seconds = clock.until(router.wakes)
-        opening = self._over_tcp(seconds) if self._connect is None else self._connect()
         try:
-            streams = await _within(seconds, opening, _abort)
+            streams = await _within(clock.until(router.wakes), self._connect(), _abort)
         except (OSError, asyncio.TimeoutError) as error:
             if not clock.is_at(router.wakes):
                 router.lost(error)
