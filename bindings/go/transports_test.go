@@ -256,18 +256,25 @@ func (l smallBuffers) Accept() (net.Conn, error) {
 	return connection, err
 }
 
-// slowWrite is the time limit of a write to a slowConn; 256 reads take longer.
+// slowWrite is the time limit of a write to a slowConn.
 const slowWrite = 2 * time.Second
 
-// slowConn reads little at a time, with pauses.
-type slowConn struct{ net.Conn }
+// slowConn pauses for less than that after each MiB, four times in an answer of 4 MiB: so that takes
+// longer. A pause before each read could end a write on a busy machine, which makes all of them
+// longer: a write waits until much of the buffers was read.
+type slowConn struct {
+	net.Conn
+	unread int // bytes until the next pause
+}
 
-func (c slowConn) Read(buffer []byte) (int, error) {
-	time.Sleep(slowWrite / 200)
-	if len(buffer) > 1<<14 {
-		buffer = buffer[:1<<14]
+func (c *slowConn) Read(buffer []byte) (int, error) {
+	if c.unread <= 0 {
+		time.Sleep(slowWrite * 3 / 8)
+		c.unread = 1 << 20
 	}
-	return c.Conn.Read(buffer)
+	count, err := c.Conn.Read(buffer)
+	c.unread -= count
+	return count, err
 }
 
 // A router that reads slowly gets all of an answer over TLS too, in more time than the limit of a
@@ -301,7 +308,7 @@ func TestSlowRouterOverTLS(t *testing.T) {
 			return nil, err
 		}
 		connection.(*net.TCPConn).SetReadBuffer(1 << 16)
-		return tls.Client(slowConn{connection}, &tls.Config{
+		return tls.Client(&slowConn{connection, 1 << 19}, &tls.Config{
 			ServerName: cacheName, RootCAs: trusted.pool(), Certificates: []tls.Certificate{router},
 		}), nil
 	}

@@ -39,7 +39,7 @@ func replaces(t *testing.T, folder string) (ends func()) {
 		if err := os.RemoveAll(had); err != nil {
 			t.Fatal(err)
 		}
-		os.Rename(aside, had) // fails if the cache has saved in between
+		_ = os.Link(aside, had) // fails if the cache has saved in between
 	}
 }
 
