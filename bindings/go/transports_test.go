@@ -259,9 +259,9 @@ func (l smallBuffers) Accept() (net.Conn, error) {
 // slowWrite is the time limit of a write to a slowConn.
 const slowWrite = 2 * time.Second
 
-// slowConn pauses for less than that after each MiB, four times in an answer of 4 MiB: so that takes
-// longer. A pause before each read could end a write on a busy machine, which makes all of them
-// longer: a write waits until much of the buffers was read.
+// slowConn pauses ten times in an answer of 4 MiB, which takes longer then. A pause before each read
+// could end a write on a busy machine, which makes all of them longer: a write waits until much of
+// the buffers was read.
 type slowConn struct {
 	net.Conn
 	unread int // bytes until the next pause
@@ -269,8 +269,8 @@ type slowConn struct {
 
 func (c *slowConn) Read(buffer []byte) (int, error) {
 	if c.unread <= 0 {
-		time.Sleep(slowWrite * 3 / 8)
-		c.unread = 1 << 20
+		time.Sleep(slowWrite / 8)
+		c.unread = 1 << 22 / 10
 	}
 	count, err := c.Conn.Read(buffer)
 	c.unread -= count
@@ -308,7 +308,7 @@ func TestSlowRouterOverTLS(t *testing.T) {
 			return nil, err
 		}
 		connection.(*net.TCPConn).SetReadBuffer(1 << 16)
-		return tls.Client(&slowConn{connection, 1 << 19}, &tls.Config{
+		return tls.Client(&slowConn{connection, 1 << 17}, &tls.Config{
 			ServerName: cacheName, RootCAs: trusted.pool(), Certificates: []tls.Certificate{router},
 		}), nil
 	}
