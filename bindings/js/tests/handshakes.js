@@ -21,7 +21,7 @@ export const TESTS = {
             return;
         }
         const tls = { ...own, ca: routers.cert, requestCert: true };
-        await withServer(rtr, { firstLimit: 500 }, async (server, port, ended) => {
+        await withServer(rtr, {}, async (server, port, ended) => {
             await server.update(dataOf(rtr, 1, 1));
             const client = new Client({ host: HOST, port, tls: { ...routers, ca: own.cert } });
             assert.equal((await client.fetch()).serial, 1);
@@ -32,16 +32,18 @@ export const TESTS = {
             }
             await until(() => ended.length === 2);
             assert.equal(ended[1].code, "DEPTH_ZERO_SELF_SIGNED_CERT");
-            const silent = await router(port);
-            assert.equal(await silent.next(), null);
-            silent.close();
-            await until(() => ended.length === 3);
-            assert.equal(ended[2].reason, Reason.SLOW);
             const wrong = await router(port);
             wrong.send(RESET_QUERY);
             await wrong.gone();
             wrong.close();
-            await until(() => ended.length === 4);
+            await until(() => ended.length === 3);
+        }, { tls });
+        await withServer(rtr, { firstLimit: 500 }, async (_server, port, ended) => {
+            const silent = await router(port);
+            assert.equal(await silent.next(), null);
+            silent.close();
+            await until(() => ended.length === 1);
+            assert.equal(ended[0].reason, Reason.SLOW);
         }, { tls });
     },
 
