@@ -1,5 +1,6 @@
 //! Carries the bytes of a server's connection.
 
+use crate::repeated::repeated;
 use rtr_wire::{Moment, Served, ServedStep};
 use std::future::Future;
 use std::io::{self, ErrorKind, IoSlice};
@@ -72,7 +73,8 @@ impl<S: AsyncRead + AsyncWrite + Unpin> Carried<S> {
 
     fn poll_send(&mut self, moment: impl Fn() -> Moment, cx: &mut Context<'_>) -> Poll<()> {
         let output = self.served.output().map(IoSlice::new);
-        let sent = Pin::new(&mut self.stream).poll_write_vectored(cx, &output);
+        let stream = &mut self.stream;
+        let sent = repeated(|| Pin::new(&mut *stream).poll_write_vectored(cx, &output));
         sent.map(|sent| match sent {
             Ok(0) => self.served.lost(ErrorKind::WriteZero.into()),
             Ok(count) => {
@@ -90,7 +92,8 @@ impl<S: AsyncRead + AsyncWrite + Unpin> Carried<S> {
         }
         let mut bytes = [0; CHUNK];
         let mut buffer = ReadBuf::new(&mut bytes);
-        let read = Pin::new(&mut self.stream).poll_read(cx, &mut buffer);
+        let stream = &mut self.stream;
+        let read = repeated(|| Pin::new(&mut *stream).poll_read(cx, &mut buffer));
         read.map(|read| match read {
             Ok(()) => self.served.received(&moment(), buffer.filled()),
             Err(error) => self.served.lost(error),
@@ -107,10 +110,10 @@ impl<S: AsyncRead + AsyncWrite + Unpin> Carried<S> {
 
     /// Flushes the stream, or shuts it down for writing after the last bytes.
     fn poll_end_of_sending(&mut self, cx: &mut Context<'_>) -> Poll<io::Result<()>> {
-        let stream = Pin::new(&mut self.stream);
+        let stream = &mut self.stream;
         let done = match (self.is_finishing, self.holds) {
-            (true, _) => stream.poll_shutdown(cx),
-            (_, true) => stream.poll_flush(cx),
+            (true, _) => repeated(|| Pin::new(&mut *stream).poll_shutdown(cx)),
+            (_, true) => repeated(|| Pin::new(&mut *stream).poll_flush(cx)),
             _ => return Poll::Pending,
         };
         if done.is_ready() {

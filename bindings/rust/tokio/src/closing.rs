@@ -1,5 +1,6 @@
 //! Closes a client's connection.
 
+use crate::repeated::repeated;
 use crate::running::Open;
 use rtr_wire::{ClientOptions, Router};
 use std::future::Future;
@@ -49,9 +50,9 @@ impl<S: AsyncRead + AsyncWrite + Unpin> Closing<S> {
                 return Poll::Pending;
             }
         }
-        let mut stream = Pin::new(&mut self.open.stream);
+        let stream = &mut self.open.stream;
         if !self.is_shut {
-            if stream.as_mut().poll_shutdown(cx)?.is_pending() {
+            if repeated(|| Pin::new(&mut *stream).poll_shutdown(cx))?.is_pending() {
                 return Poll::Pending;
             }
             self.is_shut = true;
@@ -59,7 +60,7 @@ impl<S: AsyncRead + AsyncWrite + Unpin> Closing<S> {
         while self.discarded < ClientOptions::LAST_BYTES {
             let mut bytes = [0; DISCARDED];
             let mut buffer = ReadBuf::new(&mut bytes);
-            if stream.as_mut().poll_read(cx, &mut buffer)?.is_pending() {
+            if repeated(|| Pin::new(&mut *stream).poll_read(cx, &mut buffer))?.is_pending() {
                 return Poll::Pending;
             }
             match buffer.filled().len() {

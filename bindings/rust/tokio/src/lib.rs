@@ -33,6 +33,7 @@ mod carrying;
 mod client;
 mod closing;
 mod group;
+mod repeated;
 mod running;
 mod server;
 mod timer;

@@ -1,6 +1,7 @@
 //! The loop of a client: does what its router asks for, over one connection after the other.
 
 use crate::closing::Closing;
+use crate::repeated::repeated;
 use crate::timer::Timer;
 use rtr_wire::{ClientOptions, Log, LogLevel, Router, Step};
 use std::future::Future;
@@ -151,25 +152,30 @@ impl<S: AsyncRead + AsyncWrite + Unpin> Open<S> {
         router: &mut Router,
         cx: &mut Context<'_>,
     ) -> Poll<io::Result<()>> {
-        let stream = Pin::new(&mut self.stream);
+        let stream = &mut self.stream;
         match router.output() {
-            [] if self.holds => stream.poll_flush(cx).map_ok(|()| self.holds = false),
+            [] if self.holds => {
+                repeated(|| Pin::new(&mut *stream).poll_flush(cx)).map_ok(|()| self.holds = false)
+            }
             [] => Poll::Pending,
-            output => stream.poll_write(cx, output).map(|sent| match sent? {
-                0 => Err(ErrorKind::WriteZero.into()),
-                count => {
-                    self.holds = true;
-                    router.sent(count);
-                    Ok(())
-                }
-            }),
+            output => {
+                repeated(|| Pin::new(&mut *stream).poll_write(cx, output)).map(|sent| match sent? {
+                    0 => Err(ErrorKind::WriteZero.into()),
+                    count => {
+                        self.holds = true;
+                        router.sent(count);
+                        Ok(())
+                    }
+                })
+            }
         }
     }
 
     /// Reads bytes, or the end of the stream, which has none.
     fn receive(&mut self, router: &mut Router, cx: &mut Context<'_>) -> Poll<io::Result<()>> {
         let mut buffer = ReadBuf::new(router.room());
-        let read = Pin::new(&mut self.stream).poll_read(cx, &mut buffer);
+        let stream = &mut self.stream;
+        let read = repeated(|| Pin::new(&mut *stream).poll_read(cx, &mut buffer));
         let count = buffer.filled().len();
         read.map_ok(|()| router.filled(count))
     }
