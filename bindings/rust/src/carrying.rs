@@ -21,7 +21,7 @@ pub(crate) struct Connection {
     socket: Box<dyn Socket>,
     from: SocketAddr,
     served: Served,
-    /// Whether it waits to write.
+    /// Whether it has something to write.
     is_sending: bool,
     left: Left,
     is_over: bool,
@@ -67,7 +67,7 @@ impl Connection {
 
     /// Reports whether it waits to write, not to read.
     pub(crate) fn is_sending(&self) -> bool {
-        self.is_sending
+        self.socket.awaits_room().unwrap_or(self.is_sending)
     }
 
     /// Returns the socket to wait for.
@@ -168,7 +168,11 @@ impl Connection {
         match self.socket.flush() {
             Err(error) if has_to_wait(&error) => return false,
             Err(error) => self.served.lost(error),
-            Ok(()) if matches!(self.left, Left::Last) => drop(self.socket.finish()),
+            Ok(()) if matches!(self.left, Left::Last) => {
+                if matches!(self.socket.finish(), Err(error) if has_to_wait(&error)) {
+                    return false;
+                }
+            }
             Ok(()) => {}
         }
         self.left = Left::Nothing;

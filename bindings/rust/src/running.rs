@@ -9,8 +9,7 @@ use crate::options::ClientOptions;
 use crate::owned_data::Data;
 use crate::router::{Event, Router, Step};
 use crate::socket::Socket;
-use crate::timed::{after, has_to_wait, milliseconds_since, send_last, write};
-use crate::waiting::Awaited;
+use crate::timed::{after, awaited, has_to_wait, milliseconds_since, send_last, write};
 use std::boxed::Box;
 use std::collections::hash_map::RandomState;
 use std::hash::{BuildHasher, Hasher};
@@ -194,13 +193,8 @@ impl<'c> Follower<'c> {
     /// Waits until the socket is ready, the caller asks for data, or the router's next tick.
     fn rest(&self) {
         let sends = self.holds || !self.router.output().is_empty();
-        let awaited = self.socket.as_ref().map(|socket| {
-            if sends {
-                Awaited::to_write(&socket.socket())
-            } else {
-                Awaited::to_read(&socket.socket())
-            }
-        });
+        let socket = self.socket.as_ref();
+        let awaited = socket.map(|socket| awaited(socket, sends));
         self.asked.wait(&self.client.stop, awaited, self.left());
     }
 

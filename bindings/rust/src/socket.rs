@@ -12,7 +12,8 @@ use std::os::unix::net::UnixStream;
 ///
 /// It must not block: a call that would fails with [`WouldBlock`](io::ErrorKind::WouldBlock). Then
 /// the thread waits on the socket below: until it can be read after a read, until it can be written
-/// after a write or a flush.
+/// after a write, a flush or [`finish`](Socket::finish), unless
+/// [`awaits_room`](Socket::awaits_room) says something else.
 ///
 /// ```
 /// use rtr_wire::Socket;
@@ -56,12 +57,19 @@ pub trait Socket: Read + Write + Send {
     /// Returns the socket below.
     fn socket(&self) -> BorrowedFd<'_>;
 
-    /// Shuts the connection down for writing.
+    /// Shuts the connection down for writing. It is called again if it would have blocked.
     ///
     /// # Errors
     ///
     /// Those of the socket.
     fn finish(&mut self) -> io::Result<()>;
+
+    /// Returns what the last call, which would have blocked, waits for, if that isn't what the call
+    /// suggests: whether the socket below can be written, or else can be read. TLS also writes in
+    /// reads, and reads in writes, while it shakes hands.
+    fn awaits_room(&self) -> Option<bool> {
+        None
+    }
 
     /// Sends bytes of a file without a copy, as sendfile does, and returns how many were sent. A
     /// transport that encrypts can't, and keeps the default.
@@ -126,6 +134,10 @@ impl Socket for Box<dyn Socket> {
 
     fn finish(&mut self) -> io::Result<()> {
         (**self).finish()
+    }
+
+    fn awaits_room(&self) -> Option<bool> {
+        (**self).awaits_room()
     }
 
     fn send_file(

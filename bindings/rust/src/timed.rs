@@ -91,6 +91,15 @@ pub(crate) fn has_to_wait(error: &io::Error) -> bool {
     matches!(error.kind(), ErrorKind::WouldBlock | ErrorKind::Interrupted)
 }
 
+/// Returns what a call that would have blocked, a write or else a read, waits for.
+pub(crate) fn awaited(socket: &impl Socket, is_write: bool) -> Awaited {
+    if socket.awaits_room().unwrap_or(is_write) {
+        Awaited::to_write(&socket.socket())
+    } else {
+        Awaited::to_read(&socket.socket())
+    }
+}
+
 /// Writes some of the bytes. Fails if the socket takes none.
 pub(crate) fn write(socket: &mut impl Socket, bytes: &[u8]) -> io::Result<usize> {
     match socket.write(bytes)? {
@@ -112,7 +121,7 @@ pub(crate) fn send_last(mut socket: impl Socket, bytes: &[u8], until: Instant, s
         };
         match done {
             Err(error) if has_to_wait(&error) => {
-                stop.wait(Some(Awaited::to_write(&socket.socket())), left(until));
+                stop.wait(Some(awaited(&socket, true)), left(until));
             }
             Err(_) => return,
             Ok(()) => {}
@@ -124,14 +133,19 @@ pub(crate) fn send_last(mut socket: impl Socket, bytes: &[u8], until: Instant, s
 /// Closes the connection so that written bytes still arrive: closing with unread bytes would reset
 /// it, so it reads what the peer sends until that closes.
 fn close(mut socket: impl Socket, until: Instant, stop: &Stop) {
-    let _ = socket.finish();
+    while matches!(socket.finish(), Err(error) if has_to_wait(&error)) {
+        if stop.is_set() || left(until).is_zero() {
+            return;
+        }
+        stop.wait(Some(awaited(&socket, true)), left(until));
+    }
     let (mut bytes, mut buffer) = (0, [0; DISCARDED]);
     while bytes < LAST_REPORT_BYTES && !stop.is_set() && !left(until).is_zero() {
         match socket.read(&mut buffer) {
             Ok(0) => return,
             Ok(count) => bytes += count,
             Err(error) if has_to_wait(&error) => {
-                stop.wait(Some(Awaited::to_read(&socket.socket())), left(until));
+                stop.wait(Some(awaited(&socket, false)), left(until));
             }
             Err(_) => return,
         }

@@ -5,70 +5,22 @@ mod certificates;
 #[path = "../examples/tls.rs"]
 mod example;
 mod openssl;
+mod over_tls;
 #[path = "../../tests/peers/mod.rs"]
 mod peers;
 
 use self::openssl::OpenSsl;
-use ::openssl::ssl::{Ssl, SslConnector, SslStream};
 use certificates::{now, paths, Authority, Folder, Names, NAME};
 use example::{acceptor, connector};
+use over_tls::{accepted, connect};
 use peers::{alone, data, holds, milliseconds, Peer, LATE, PATIENCE};
-use rtr_wire::{Client, ClientError, ClientOptions, Event, Server, ServerOptions, Socket};
-use std::io::{self, ErrorKind, Read, Write};
-use std::net::{SocketAddr, TcpListener, TcpStream};
+use rtr_wire::{Client, ClientError, ClientOptions, Event, Server, ServerOptions};
+use std::net::{SocketAddr, TcpListener};
 use std::ops::ControlFlow;
-use std::os::unix::io::{AsFd, BorrowedFd};
 use std::path::PathBuf;
 use std::sync::mpsc::{channel, Receiver};
 use std::sync::Mutex;
 use std::time::{Duration, Instant};
-
-/// TLS over a connection for which no call waits.
-struct Tls(SslStream<TcpStream>);
-
-impl Read for Tls {
-    fn read(&mut self, bytes: &mut [u8]) -> io::Result<usize> {
-        self.0.read(bytes)
-    }
-}
-
-impl Write for Tls {
-    fn write(&mut self, bytes: &[u8]) -> io::Result<usize> {
-        self.0.write(bytes)
-    }
-
-    fn flush(&mut self) -> io::Result<()> {
-        self.0.flush()
-    }
-}
-
-impl Socket for Tls {
-    fn socket(&self) -> BorrowedFd<'_> {
-        self.0.get_ref().as_fd()
-    }
-
-    fn finish(&mut self) -> io::Result<()> {
-        let shut = self.0.shutdown();
-        shut.map(drop)
-            .map_err(|error| io::Error::new(ErrorKind::Other, error))
-    }
-}
-
-/// A connection to the cache of this name, whose handshake waits no longer than this for bytes.
-fn connect(
-    connector: &SslConnector,
-    address: SocketAddr,
-    name: &str,
-    time: Duration,
-) -> io::Result<Tls> {
-    let stream = TcpStream::connect_timeout(&address, time)?;
-    stream.set_read_timeout(Some(time))?;
-    stream.set_write_timeout(Some(time))?;
-    let connected = connector.connect(name, stream);
-    let tls = connected.map_err(|_| io::Error::from(ErrorKind::PermissionDenied))?;
-    tls.get_ref().set_nonblocking(true)?;
-    Ok(Tls(tls))
-}
 
 fn client(address: SocketAddr, name: &'static str, files: &[PathBuf; 3]) -> Client {
     client_in(2, address, name, files)
@@ -108,11 +60,7 @@ fn cache_until(
     });
     server.update(data(1)).unwrap();
     let acceptor = acceptor(paths(files)).unwrap();
-    let ready = move |stream| {
-        let mut ssl = Ssl::new(acceptor.context())?;
-        ssl.set_accept_state();
-        Ok(Tls(SslStream::new(ssl, stream)?))
-    };
+    let ready = move |stream| accepted(&acceptor, stream);
     let address = server.listen_with("127.0.0.1:0", ready).unwrap();
     (server, address, endings)
 }
