@@ -596,14 +596,19 @@ class _Connection:
         return None
 
     def _finish(self) -> None:
-        """Shuts the connection down for writing."""
+        """Shuts the connection down for writing, once TLS has sent its own end."""
         if self._has_finished:
             return
-        self._has_finished = True
         self._blocked = 0
         if isinstance(self._socket, tls.SSLSocket):
-            with contextlib.suppress(OSError, ValueError):
+            try:
                 self._socket.unwrap()
+            except tls.SSLWantWriteError:
+                self._blocked = selectors.EVENT_WRITE
+                return
+            except (OSError, ValueError):
+                pass  # SSLWantReadError: the router hasn't sent its end
+        self._has_finished = True
         self._socket.shutdown(socket.SHUT_WR)
 
     def _watch(self, event: int) -> None:
@@ -640,3 +645,4 @@ class _Connection:
         self._run.left(self, self._entry)
         if error is not None:
             self._run.tell(self._address, error)
+        self._served.error = None  # else its traceback keeps this connection, and TLS, in a cycle
