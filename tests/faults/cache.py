@@ -9,15 +9,19 @@ import resource
 import select
 import signal
 import socket
+import ssl
 import statistics
 import struct
 import subprocess
 import time
 
 import process_state
+import tls
 from units import END, NO_DATA, NOTIFY, REPORT, RESET_QUERY, RESPONSE, SERIAL_QUERY, SESSION
 from units import TIMEOUT, Wrong, changes, end, payloads, size_of, unit
 
+# The errors of a router's connection that ended, also over TLS.
+ENDED = ConnectionError, ssl.SSLError
 # Errors that end the connection on whose call they are injected.
 ENDING = {"EPIPE", "ECONNRESET", "ETIMEDOUT", "EHOSTUNREACH", "EIO"}
 
@@ -33,19 +37,12 @@ ANSWERS, MEASURED = 5, 20
 COLLECTING = 3
 
 
-def interrupts_sockets(faults):
-    """Reports whether the faults interrupt sends or reads. A system doesn't do that on sockets that
-    don't block, and the crate tokio returns such an error to its caller."""
-    words = [word.split(":") for word in faults.split()]
-    return any(call in ("send", "receive") and fault == "EINTR" for call, _, _, fault, *_ in words)
-
-
 def is_reset(connection):
     """Sends bytes on a connection whose other end sends nothing any more, and reports whether it is
     reset: then that end was closed, and not for writing alone."""
     errors = select.poll()
     errors.register(connection, 0)
-    with contextlib.suppress(ConnectionError):
+    with contextlib.suppress(*ENDED):
         connection.sendall(bytes(8))
     return bool(errors.poll(RESET_WAIT))
 
@@ -65,6 +62,8 @@ class Cache:
         self.calls = calls and os.path.join(folder, calls)
         self.saved_path = saved_path(command, folder)
         self.draws_session = STATE in command
+        identity = tls.identity_in(command)
+        self.context = tls.router_context(identity) if identity else None
         self.session = None if self.draws_session else SESSION
         self.fault_log, self.log_path = os.path.join(folder, "seen"), os.path.join(folder, "log")
         self.state_path, self.memory_path = (
@@ -252,7 +251,7 @@ def replace_file(path, content):
 
 
 class Router:
-    """A connection to a cache, in a version of the protocol."""
+    """A connection to a cache, in a version of the protocol; over TLS if the cache is."""
 
     def __init__(self, cache, version=2, buffer_size=None):
         self.version, self.session, self.unread, self.offset = version, cache.session, b"", 0
@@ -260,6 +259,8 @@ class Router:
         self.socket = socket.socket()
         if buffer_size:
             self.socket.setsockopt(socket.SOL_SOCKET, socket.SO_RCVBUF, buffer_size)
+        if cache.context:
+            self.socket = tls.router_end(cache.context, self.socket)
         self.socket.settimeout(TIMEOUT)
         self.socket.connect(("127.0.0.1", cache.port))
 
@@ -277,7 +278,7 @@ class Router:
     def send(self, query):
         try:
             self.socket.sendall(query)
-        except ConnectionError as error:
+        except ENDED as error:
             raise Lost from error
 
     def ask_all(self):
@@ -299,7 +300,7 @@ class Router:
     def receive(self, limit=1 << 16):
         try:
             received = self.socket.recv(limit)
-        except ConnectionError as error:
+        except ENDED as error:
             raise Lost from error
         except socket.timeout as error:
             raise Wrong("the cache sent nothing") from error
@@ -347,7 +348,7 @@ class Router:
         self.expect_report(code, refused)
         try:
             rest = self.unread[self.offset:] + self.socket.recv(1)
-        except ConnectionError as error:
+        except ENDED as error:
             raise Wrong(f"after a report: {error}") from error
         if rest:
             raise Wrong(f"after a report a router got {rest.hex()}")

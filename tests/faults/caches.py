@@ -9,7 +9,8 @@ import threading
 import time
 from concurrent.futures import ThreadPoolExecutor
 
-from cache import ENDING, Cache, Lost, Router, interrupts_sockets, replace_file
+import tls
+from cache import ENDING, Cache, Lost, Router, replace_file
 from process_state import Wait
 from units import ASPAS, INVALID_REQUEST, KEYS, RESPONSE, SESSION, TICK
 from units import Wrong, end, payloads, unit
@@ -65,13 +66,22 @@ SESSIONS = {
     "hosts that can't be reached": ("send:3:3:EHOSTUNREACH send:7:7:EHOSTUNREACH", False),
     "all but accepts at once": ("send:1:0:5 send:2:0:EINTR:3 send:3:0:EAGAIN:7 receive:1:0:3 "
                                 "receive:2:0:EAGAIN:3 wait:1:0:EINTR:3", False),
-    "all but interrupted calls at once": ("send:1:0:5 send:3:0:EAGAIN:7 receive:1:0:3 "
-                                          "receive:2:0:EAGAIN:3 wait:1:0:EINTR:3 "
-                                          "accept:1:0:EMFILE:3", False),
     "all at once": ("send:1:0:5 send:2:0:EINTR:3 send:3:0:EAGAIN:7 receive:1:0:3 "
                     "receive:2:0:EAGAIN:3 wait:1:0:EINTR:3 accept:1:0:EMFILE:3", False),
 }
+# A cache over TLS makes two or three sends in a handshake, and some twelve reads if it reads the
+# head and the rest of each record: these faults come in and after handshakes.
+OVER_TLS = {
+    "timeouts in sends over TLS": ("send:5:19:ETIMEDOUT:7", False),
+    "timeouts in many bytes over TLS": ("send:1:0:50000 send:16:30:ETIMEDOUT:14", True),
+    "resets at reads over TLS": ("receive:5:5:ECONNRESET receive:21:21:ECONNRESET", False),
+}
+SESSIONS.update(OVER_TLS)
+LEAVINGS_OVER_TLS = {
+    "routers that leave under faults over TLS": "send:7:0:ETIMEDOUT:70 receive:9:0:ECONNRESET:101",
+}
 LEAVINGS = {
+    **LEAVINGS_OVER_TLS,
     "routers that leave": "",
     "routers that leave under faults": "send:7:0:EPIPE:7 receive:9:0:ECONNRESET:11 "
                                        "accept:5:0:EMFILE:40 accept:8:0:ECONNABORTED:30",
@@ -82,7 +92,6 @@ SLOW = {
     "a slow router": "",
     "a slow router under faults": "send:1:0:EINTR:3 send:2:0:50000:2 send:4:0:EAGAIN:5 "
                                   "wait:1:0:EINTR:5",
-    "a slow router behind short sends": "send:2:0:50000:2 send:4:0:EAGAIN:5 wait:1:0:EINTR:5",
 }
 THOUSAND = "a thousand routers that leave"
 NO_ACCEPT = {"no descriptors for long": "accept:2:0:EMFILE"}
@@ -92,26 +101,32 @@ STARVED = "a process without descriptors"
 SILENT = "a router that asks nothing"
 FIRST_LIMIT, MOST_LATE = 30, 1.5
 FOLDER = "a folder in the place of the file"
+# What isn't played over TLS: what a cache does before TLS, and with its files; faults that end
+# nearly all handshakes; pipes that break, which OpenSSL doesn't tell of where it sends tickets.
+NOT_OVER_TLS = {
+    "a pipe that breaks at an answer", "pipes that break at changes", "a reset in many bytes",
+    "interrupted accepts", "accepts that would block", "aborted connections", "no files",
+    "no memory of the system", "hosts that can't be reached", "a failing file in memory",
+    "routers that leave under faults", "routers that leave under rarer faults", "a slow router",
+    THOUSAND, STARVED, SILENT, FOLDER, *NO_ACCEPT,
+}
 # Node has two runs in place of others: it sends an answer in more parts, and without descriptors it
-# closes new connections. The crate tokio has two in place of those that interrupt sends or reads,
-# and its program here doesn't log why it can't read its file.
+# closes new connections. The program for the crate tokio doesn't log why it can't read its file.
 NODE_ONLY = {"all but accepts at once", "routers that leave under rarer faults"}
 NOT_NODE = {"all at once", "routers that leave under faults", *NO_ACCEPT}
-TOKIO_ONLY = {"all but interrupted calls at once", "a slow router behind short sends"}
 
 
 def names(program):
     """Returns the names of the runs of a cache."""
-    sessions = {name: faults for name, (faults, _) in SESSIONS.items()}
-    faults = {**SLOW, **LEAVINGS, **NO_ACCEPT, **sessions,
-              **dict.fromkeys((THOUSAND, STARVED, SILENT, FOLDER), "")}
+    scenes = [*SLOW, *LEAVINGS, *NO_ACCEPT, *SESSIONS, *FAULTLESS, THOUSAND]
+    is_over_tls = program.endswith(tls.OVER)
+    left_out = {*NOT_OVER_TLS} if is_over_tls else {*OVER_TLS, *LEAVINGS_OVER_TLS}
+    left_out |= NOT_NODE if program.startswith("Node") else NODE_ONLY
+    if program.startswith("Go"):
+        left_out.add("interrupted waits")
     if program == "tokio cache":
-        return [name for name in faults if name not in NODE_ONLY and name != FOLDER
-                and not interrupts_sockets(faults[name])]
-    if program == "Node cache":
-        return [name for name in faults if name not in NOT_NODE | TOKIO_ONLY]
-    left_out = {"interrupted waits"} if program == "Go cache" else set()
-    return [name for name in faults if name not in NODE_ONLY | TOKIO_ONLY | left_out]
+        left_out.add(FOLDER)
+    return [name for name in scenes if name not in left_out]
 
 
 def content(serial, items, session=SESSION):

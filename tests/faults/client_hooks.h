@@ -1,4 +1,4 @@
-/* programs.py includes this before bindings/c/client.c: if FAULTS_PAUSE has milliseconds, the
+/* programs.py includes this before client.c and client_tls.c: if FAULTS_PAUSE has milliseconds, the
  * client reconnects after these, and counting_hooks.h counts what it has allocated. */
 #include "counting_hooks.h"
 #include "rtr_client.h"

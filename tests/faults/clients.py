@@ -18,11 +18,11 @@ from concurrent.futures import Future
 
 import process_state
 import tls
-from cache import interrupts_sockets, is_reset
+from cache import is_reset
 from units import AS, ASPAS, KEYS, NOTIFY, REPORT, RESET_QUERY, RESPONSE, SERIAL_QUERY, SESSION
 from units import TIMEOUT, Aspa, RouterKey, Wrong, changes, end, payloads, size_of, unit
 
-RECONNECTS = 4
+RECONNECTS, RECONNECTS_OVER_TLS = 4, 2
 LINES = 20  # of what a client wrote to standard error, that a failure shows
 
 # Two hundred connects of a client. It counts its allocated memory after each connection: after the
@@ -34,8 +34,10 @@ PAUSE = "10"  # milliseconds between two connections
 HUNDRED = 100
 # The most objects, one for each second connection, and bytes by which a client may grow.
 MOST_GROWTH = (HUNDRED // 2, 1 << 12)
-COUNTING = ("C client", "C link", "Python", "asyncio", "Node", "Rust that counts", "Go", "tokio")
-IN_C = ("C client", "C link")  # they free what the system found for a name
+NOT_COUNTING = ("Rust",)  # another program counts
+IN_C = ("C client", "C link", "C client over TLS")  # they free what the system found for a name
+IN_GO = ("Go", "Go over TLS")
+READING_AT_ONCE = ("asyncio over TLS", "Node over TLS")  # several records of TLS
 
 # A cache whose first answer is a unit of a type that nobody knows: the client has to send a whole
 # report of this code about it (RFC 8210 section 12), and asks again. Where waits are interrupted,
@@ -93,15 +95,27 @@ FAULTS = {
 }
 
 
-# The client over TLS asks in version 1. It makes more calls: those faults may end a handshake, and
-# these end what follows it.
-TLS = "C client over TLS"
-OVER_TLS = {
+# Clients over TLS ask in version 1. They make more calls: those faults may end a handshake, and
+# these come also after it. A client that reads the head and the rest of each record makes some
+# eighteen reads until it has its first data, another one three.
+BREAKING_OVER_TLS = {
     "pipes that break at queries over TLS": "send:3:3:EPIPE send:6:6:EPIPE",
     "resets in answers over TLS": "receive:16:16:ECONNRESET receive:34:34:ECONNRESET",
+    "resets in answers that come at once over TLS": "receive:3:3:ECONNRESET receive:6:6:ECONNRESET",
 }
-BREAKING.update(OVER_TLS)
+OVER_TLS = {
+    "spurious wakes over TLS": "receive:2:0:EAGAIN:2",
+    "interrupted sends over TLS": "send:3:0:EINTR:2",
+    "sends that would block over TLS": "send:3:0:EAGAIN:2",
+    **BREAKING_OVER_TLS,
+}
+BREAKING.update(BREAKING_OVER_TLS)
 FAULTS.update(OVER_TLS)
+# What isn't played over TLS: the front has the connection of the cache; names are looked up, and
+# addresses tried, as without TLS. Other faults take the place of three that come only in a
+# handshake, where the client in Rust makes calls that wait.
+NOT_OVER_TLS = {FAILING, SILENT, *STAYING, "refused connections", "a network that can't be reached",
+                "spurious wakes", "an interrupted send", "sends that would block"}
 
 
 def line(item, sign):
@@ -234,8 +248,9 @@ class Run:
         self.version = 1 if identity else 2
         self.unknown = unit(UNKNOWN_TYPE, 0, version=self.version)
         self.counts = name in (CONNECTS, FAILING)
-        # After a connection without an answer a client may ask in version 1 (section 7).
-        data = [item for item in DATA if name not in BREAKING or not isinstance(item, Aspa)]
+        # After a connection without an answer a client may ask in a lower version (section 7).
+        least = self.version - 1 if name in BREAKING else self.version
+        data = [item for item in DATA if payloads([item], 1, least)]
         refused = self.unknown if name in REPORTING else b""
         self.cache = Cache(socket.AF_INET, data, refused, name in STAYING)
         self.front = tls.Front(self.cache.port, identity) if identity else None
@@ -270,6 +285,10 @@ class Run:
         printed = [self.lines.popleft() for _ in expected]
         if sorted(printed) != sorted(expected):
             raise Wrong(f"it printed {printed}, not {expected}")
+
+    def accepted(self):
+        """Returns how often the client connected, also without a handshake."""
+        return (self.front or self.cache).accepted
 
     def resources(self):
         """Returns how many descriptors, and threads or goroutines, the client has."""
@@ -314,8 +333,8 @@ class Run:
         if self.counts:
             self.check_memory()
         self.wait_for_resources(first)
-        if not may_break and self.cache.accepted != 1 + reconnects:
-            raise Wrong(f"it connected {self.cache.accepted} times, not {1 + reconnects}")
+        if not may_break and self.accepted() != 1 + reconnects:
+            raise Wrong(f"it connected {self.accepted()} times, not {1 + reconnects}")
         self.process.send_signal(signal.SIGTERM)
         status = self.process.wait(TIMEOUT)
         if status not in (0, -signal.SIGTERM):
@@ -326,7 +345,7 @@ class Run:
     def check_queries(self):
         """Checks that the client asked for all data, and at the notify for the changes (RFC 8210
         section 8.2), on one connection: the refresh time is an hour."""
-        queries, accepted = self.cache.queries, self.cache.accepted
+        queries, accepted = self.cache.queries, self.accepted()
         expected = [unit(RESET_QUERY, 0, version=self.version),
                     unit(SERIAL_QUERY, SESSION, struct.pack(">I", 1), self.version)]
         if queries != expected:
@@ -380,8 +399,9 @@ def play(command, name, library, folder):
     run = Run(command, faults, library, folder, name)
     wrong = None
     try:
+        usual = RECONNECTS_OVER_TLS if run.front else RECONNECTS
         reconnects = {CONNECTS: 2 * HUNDRED, SILENT: SILENT_RECONNECTS, FAILING: 1}.get(
-            name, RECONNECTS)
+            name, usual)
         run.play(name in BREAKING or name in (CONNECTS, FAILING, *REPORTING), reconnects)
         if name in REPORTING:
             run.check_report()
@@ -399,14 +419,17 @@ def names(program):
     """Returns the names of the runs of a client. In Go only calls of connections get faults, and a
     short write is one whose time is over, after which no more of a report is sent; and names are
     looked up by Go itself. Over TLS another program has the connection of the cache."""
-    counts = [CONNECTS] if program in COUNTING else []
+    counts = [] if program in NOT_COUNTING else [CONNECTS]
     if program == "Rust that counts":
         return counts
-    if program == TLS:
-        return [name for name in FAULTS if name not in (FAILING, *STAYING)]
-    left_out = {*OVER_TLS} if program in IN_C else {*OVER_TLS, FAILING}
-    if program == "tokio":
-        left_out |= {name for name in FAULTS if interrupts_sockets(FAULTS[name])}
+    is_over_tls = program.endswith(tls.OVER)
+    left_out = {*NOT_OVER_TLS} if is_over_tls else {*OVER_TLS, FAILING}
+    if program in IN_C:
+        left_out -= {FAILING, SILENT}
+    if program in IN_GO:
+        left_out |= {"interrupted waits", INTERRUPTED, STAYS_LONGER, SILENT}
     if program == "Go":
-        left_out |= {"interrupted waits", REFUSED, INTERRUPTED, STAYS_LONGER, SILENT}
+        left_out.add(REFUSED)
+    if program in READING_AT_ONCE:
+        left_out.add("resets in answers over TLS")
     return [*(name for name in FAULTS if name not in left_out), *counts]

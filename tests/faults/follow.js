@@ -1,7 +1,9 @@
 // Follows a cache with the client for Node, and prints the lines of rtr_diff for changes.
 //
-// usage: node follow.js HOST:PORT MODULE
+// usage: node follow.js HOST:PORT MODULE [--tls IDENTITY]
 //
+// IDENTITY is a file with a certificate for the host, by which both ends are known, and its key.
+// The client then asks in version 1.
 // If FAULTS_PAUSE has milliseconds, it reconnects after these. If FAULTS_MEMORY names a file, that
 // gets a line at each hundredth end of a connection: how many objects and bytes are reachable, by a
 // heap snapshot, which begins with a collection. Code and what the engine notes about it aren't
@@ -13,6 +15,7 @@ import { getHeapSnapshot } from "node:v8";
 import { Client } from "../../bindings/js/client.js";
 import { Heap } from "../../bindings/js/memory.js";
 import { load } from "../../bindings/js/rtr_wire.js";
+import { identified } from "./secured.js";
 
 const { FAULTS_PAUSE: pause, FAULTS_MEMORY: path } = process.env;
 
@@ -51,11 +54,12 @@ async function writeMemory() {
     appendFileSync(path, `${sizes.length} ${sizes.reduce((sum, bytes) => sum + bytes)}\n`);
 }
 
-const [address, module] = process.argv.slice(2);
+const [address, module, secures, identity] = process.argv.slice(2);
 const [, host, port] = /^(.*):(\d+)$/.exec(address);
 const rtr = await load(await readFile(module));
-const settings = { highest: 2, ...pause && { pause: Number(pause) } };
-const client = new Client({ host, port: Number(port), settings, rtr });
+const settings = { highest: secures ? 1 : 2, ...pause && { pause: Number(pause) } };
+const tls = secures && await identified(identity);
+const client = new Client({ host, port: Number(port), settings, rtr, ...tls && { tls } });
 let ends = 0;
 client.on("failed", async (error) => {
     console.error(error.message);

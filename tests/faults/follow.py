@@ -1,7 +1,8 @@
 """Follows a cache with the package for Python, and prints the lines of rtr_diff.
 
-usage: follow.py HOST:PORT --version N [--asyncio]
+usage: follow.py HOST:PORT --version N [--asyncio] [--tls IDENTITY]
 
+IDENTITY is a file with a certificate for the host, by which both ends are known, and its key.
 If FAULTS_PAUSE has milliseconds, it reconnects after these. If FAULTS_MEMORY names a file, that
 gets a line at each hundredth end of a connection: how many objects and bytes are allocated. At
 another time there may be a buffer of 64 KiB, into which a thread reads.
@@ -9,6 +10,7 @@ another time there may be a buffer of 64 KiB, into which a thread reads.
 import asyncio
 import gc
 import os
+import ssl
 import sys
 import tracemalloc
 
@@ -43,6 +45,16 @@ class Counter:
             print(len(sizes), sum(sizes), file=self.file, flush=True)
 
 
+def secured():
+    """Returns the context of TLS, or nothing."""
+    if "--tls" not in sys.argv:
+        return None
+    identity = sys.argv[sys.argv.index("--tls") + 1]
+    context = ssl.create_default_context(cafile=identity)
+    context.load_cert_chain(identity)
+    return context
+
+
 def main():
     host, _, port = sys.argv[1].rpartition(":")
     client_class = rtr_wire.AsyncClient if "--asyncio" in sys.argv else rtr_wire.Client
@@ -56,7 +68,7 @@ def main():
             counter.write()
         if pause:
             client.ask_now()
-    client = client_class(host.strip("[]"), int(port), settings, failed=failed)
+    client = client_class(host.strip("[]"), int(port), settings, ssl=secured(), failed=failed)
     if client_class is rtr_wire.AsyncClient:
         asyncio.run(show_all(client))
     for update in client:

@@ -48,6 +48,38 @@ rtr-wire = {{ path = "{rust}" }}
 rtr-wire-tokio = {{ path = "{rust}/tokio" }}
 tokio = {{ version = "1", features = ["macros", "net", "rt-multi-thread", "time"] }}
 """
+# The project of clients and caches over TLS, in threads and over tokio.
+OVER_TLS = """[package]
+name = "over_tls"
+version = "0.0.0"
+edition = "2021"
+
+[features]
+tls = []
+
+[[bin]]
+name = "rust_tls_client"
+path = "{here}/rust_client.rs"
+
+[[bin]]
+name = "rust_tls_cache"
+path = "{here}/rust_cache.rs"
+
+[[bin]]
+name = "tokio_tls_client"
+path = "{here}/tokio_client.rs"
+
+[[bin]]
+name = "tokio_tls_cache"
+path = "{here}/tokio_cache.rs"
+
+[dependencies]
+openssl = "0.10"
+rtr-wire = {{ path = "{rust}" }}
+rtr-wire-tokio = {{ path = "{rust}/tokio" }}
+tokio = {{ version = "1", features = ["macros", "net", "rt-multi-thread", "time"] }}
+tokio-openssl = "0.6"
+"""
 # The project of the client and the cache in Go.
 GO_MOD = """module faulty
 
@@ -124,13 +156,24 @@ def c_clients(archives, work):
     yield "C link", ["stdbuf", "-oL", link, "ADDRESS", "2"]
 
 
-def c_tls_clients(archives, work):
+def has_openssl_headers():
     compiler = shlex.split(os.environ.get("CC", "cc"))
     header = ["-include", "openssl/ssl.h", "-E", "-x", "c", "/dev/null"]
+    return not subprocess.run([*compiler, *header], capture_output=True).returncode
+
+
+def identity_for(what, work):
+    """Returns the path of the file with the certificate of both ends and its key; nothing without
+    the program openssl."""
+    return tls.make_identity(work) or skipped("openssl", what)
+
+
+def c_tls_clients(archives, work):
     identity = tls.make_identity(work)
-    if not identity or subprocess.run([*compiler, *header], capture_output=True).returncode:
+    if not identity or not has_openssl_headers():
         return skipped("openssl with its headers (libssl-dev)", "the client in C over TLS")
-    client = c_program("client_tls", ["client_tls.c", "rtr_client.c"], archives, work, "-lssl",
+    client_object = hooked("client_tls.c", "client_hooks.h", work)
+    client = c_program("client_tls", [client_object, "rtr_client.c"], archives, work, "-lssl",
                        "-lcrypto")
     yield "C client over TLS", ["stdbuf", "-oL", client, f"{identity}.signed", identity, "ADDRESS"]
 
@@ -152,19 +195,50 @@ def python_clients(archives, work):
     yield "asyncio", [*client, "--asyncio"]
 
 
+def python_tls_clients(archives, work):
+    identity = identity_for("the clients in Python over TLS", work)
+    if identity:
+        python_package(archives, work)
+        client = [sys.executable, os.path.join(HERE, "follow.py"), "ADDRESS", "--version", "1",
+                  "--tls", identity]
+        yield "Python over TLS", client
+        yield "asyncio over TLS", [*client, "--asyncio"]
+
+
+PYTHON_CACHE = os.path.join(BINDINGS, "python", "examples", "cache.py")
+
+
 def python_caches(archives, work):
     python_package(archives, work)
-    cache = os.path.join(BINDINGS, "python", "examples", "cache.py")
-    yield "Python cache", [sys.executable, cache]
+    yield "Python cache", [sys.executable, PYTHON_CACHE]
+
+
+def python_tls_caches(archives, work):
+    identity = identity_for("the cache in Python over TLS", work)
+    if identity:
+        python_package(archives, work)
+        yield "Python cache over TLS", [sys.executable, os.path.join(HERE, "tls_cache.py"),
+                                        PYTHON_CACHE, "--tls", identity]
+
+
+def node_cache(program):
+    """Returns the command of a cache, which reads the module of the repository."""
+    return [shutil.which("node"), "--expose-gc", "--require", os.path.join(HERE, "state.cjs"),
+            program]
 
 
 def node_caches(*_):
-    """Yields the example; it reads the module of the repository."""
-    node = shutil.which("node")
-    if not node:
+    if not shutil.which("node"):
         return skipped("node", "the cache in JavaScript")
-    yield "Node cache", [node, "--expose-gc", "--require", os.path.join(HERE, "state.cjs"),
-                         os.path.join(BINDINGS, "js", "examples", "cache.js")]
+    yield "Node cache", node_cache(os.path.join(BINDINGS, "js", "examples", "cache.js"))
+
+
+def node_tls_caches(_, work):
+    """The cache without TLS tells of a missing node."""
+    identity = identity_for("the cache in JavaScript over TLS", work)
+    if identity and shutil.which("node"):
+        cache = node_cache(os.path.join(HERE, "tls_cache.js"))
+        yield "Node cache over TLS", [*cache, "--tls", identity]
 
 
 def node_clients(archives, _):
@@ -177,6 +251,14 @@ def node_clients(archives, _):
     yield "Node", [node, os.path.join(HERE, "follow.js"), "ADDRESS", module]
 
 
+def node_tls_clients(archives, work):
+    """The client without TLS tells of a missing node."""
+    identity = identity_for("the client in JavaScript over TLS", work)
+    if identity and shutil.which("node"):
+        for _, client in node_clients(archives, work):
+            yield "Node over TLS", [*client, "--tls", identity]
+
+
 def rust_example(name, archives, work):
     target = os.path.join(work, "rust")
     run([shutil.which("cargo"), "build", "--offline", "--quiet", "--example", name, "--target-dir",
@@ -185,7 +267,7 @@ def rust_example(name, archives, work):
     return os.path.join(target, "debug", "examples", name)
 
 
-def rust_project(name, manifest, archives, work):
+def rust_project(name, manifest, archives, work, *more):
     """Builds a project of its own over the crates; returns the folder of its programs."""
     project, target = os.path.join(work, name), os.path.join(work, "rust")
     rust = os.path.join(project, "rust")
@@ -194,8 +276,8 @@ def rust_project(name, manifest, archives, work):
     for path, text in ((".cargo/config.toml", CARGO_CONFIG), ("Cargo.toml", manifest)):
         with open(os.path.join(project, path), "w", encoding="utf-8") as file:
             file.write(text.format(here=HERE, rust=rust))
-    run([shutil.which("cargo"), "build", "--offline", "--quiet", "--target-dir", target], project,
-        RTR_LIB_DIR=archives, CARGO_PROFILE_DEV_DEBUG="0")
+    run([shutil.which("cargo"), "build", "--offline", "--quiet", "--target-dir", target, *more],
+        project, RTR_LIB_DIR=archives, CARGO_PROFILE_DEV_DEBUG="0")
     return os.path.join(target, "debug")
 
 
@@ -223,12 +305,14 @@ def rust_caches(archives, work):
     yield "Rust cache", [rust_example("cache", archives, work)]
 
 
-def go_programs(archives, work):
-    """Returns a client and a cache in Go, one program with faults of its own, built in a
+def go_program(archives, work):
+    """Returns a client and a cache in Go, one program with faults of its own, built once in a
     project."""
     if not shutil.which("go"):
         return skipped("go", "the client and the cache in Go")
     project, program = os.path.join(work, "faulty"), os.path.join(work, "faulty_go")
+    if os.path.exists(program):
+        return program
     shutil.copytree(os.path.join(HERE, "go"), project)
     with open(os.path.join(project, "go.mod"), "w", encoding="ascii") as file:
         file.write(GO_MOD.format(package=os.path.join(BINDINGS, "go")))
@@ -238,17 +322,29 @@ def go_programs(archives, work):
 
 
 def go_clients(archives, work):
-    program = go_programs(archives, work)
+    program = go_program(archives, work)
     if program:
         yield "Go", [program, "ADDRESS", "--version", "2"]
 
 
 def go_caches(archives, work):
-    program = os.path.join(work, "faulty_go")
-    if not os.path.exists(program):
-        program = go_programs(archives, work)
+    program = go_program(archives, work)
     if program:
         yield "Go cache", [program]
+
+
+def go_tls_clients(archives, work):
+    """The client without TLS tells of a missing go, and so does the cache."""
+    identity = identity_for("the client in Go over TLS", work)
+    if identity and shutil.which("go"):
+        yield "Go over TLS", [go_program(archives, work), "--tls", identity, "ADDRESS", "--version",
+                              "1"]
+
+
+def go_tls_caches(archives, work):
+    identity = identity_for("the cache in Go over TLS", work)
+    if identity and shutil.which("go"):
+        yield "Go cache over TLS", [go_program(archives, work), "--tls", identity]
 
 
 def traced_go_caches(archives, work):
@@ -299,3 +395,33 @@ def tokio_caches(archives, work):
     if not os.path.exists(program) and not tokio_programs(archives, work):
         return
     yield "tokio cache", [program]
+
+
+def rust_tls_program(name, what, archives, work):
+    """Returns the command of one of the programs in Rust over TLS, which are built once."""
+    identity = identity_for(what, work)
+    if not identity:
+        return None
+    if not (shutil.which("cargo") and glob.glob(f"{REGISTRY}/tokio-openssl-[0-9]*")
+            and has_openssl_headers()):
+        return skipped("crate tokio-openssl (librust-tokio-openssl-dev)", what)
+    program = os.path.join(work, "rust", "debug", name)
+    if not os.path.exists(program):
+        rust_project("over_tls", OVER_TLS, archives, work, "--features", "tls")
+    return [program, "--tls", identity]
+
+
+def rust_tls_clients(archives, work):
+    """Yields a client in threads, and one over tokio."""
+    for name, program in ("Rust", "rust_tls_client"), ("tokio", "tokio_tls_client"):
+        client = rust_tls_program(program, f"the client with {name} over TLS", archives, work)
+        if client:
+            yield f"{name} over TLS", [*client, "ADDRESS", "--version", "1"]
+
+
+def rust_tls_caches(archives, work):
+    """Yields a cache in threads, and one over tokio."""
+    for name, program in ("Rust", "rust_tls_cache"), ("tokio", "tokio_tls_cache"):
+        cache = rust_tls_program(program, f"the cache with {name} over TLS", archives, work)
+        if cache:
+            yield f"{name} cache over TLS", cache

@@ -2,10 +2,12 @@
 """Runs clients of C, Rust, Go, Python and Node, in Rust also that over tokio, in Python that for
 asyncio, beside a cache on the loopback interface, and caches of the same languages beside routers,
 with faults in their system calls: short reads and writes, interrupted calls, spurious wakes, broken
-connections, addresses that refuse or don't answer, no descriptors left, failing files, kills. A
-preloaded library (`faults.c`) injects them. A program in Go makes its system calls itself: its
-connections are wrapped (`go/faults.go`), and a tracer (`traced.c`) injects faults into calls on
-files, and into those of `rtr-cache` on sockets.
+connections, addresses that refuse or don't answer, no descriptors left, failing files, kills. The
+faults in what TLS sends and reads are played over TLS, too (`tls.py`), except with the cache in C,
+which has no TLS, and `rtr-cache`, which has that of the cache in Go. A preloaded library
+(`faults.c`) injects them. A program in Go makes its system calls itself: its connections are
+wrapped (`go/faults.go`), and a tracer (`traced.c`) injects faults into calls on files, and into
+those of `rtr-cache` on sockets.
 `clients.py`, `caches.py` and `saves.py` say what must happen, `cuts.py` what a cut of the power may
 leave, `handovers.py` what one cache takes over from another's file, and `waits.py` how the waits of
 clients differ.
@@ -31,26 +33,34 @@ import programs
 import saves
 import waits
 
-AT_ONCE = 16  # runs, each played by a process of its own: no peer waits for those of another
+AT_ONCE = 20  # runs, each played by a process of its own: no peer waits for those of another
 
 # The names of programs, what builds them, in this order, and what is run with them.
 PLAYS = (
     (["C client", "C link"], programs.c_clients, (clients, waits)),
     (["C client over TLS"], programs.c_tls_clients, (clients, waits)),
     (["Python", "asyncio"], programs.python_clients, (clients, waits)),
+    (["Python over TLS", "asyncio over TLS"], programs.python_tls_clients, (clients,)),
     (["Node"], programs.node_clients, (clients, waits)),
+    (["Node over TLS"], programs.node_tls_clients, (clients,)),
     (["Node cache"], programs.node_caches, (caches, saves, cuts, handovers)),
+    (["Node cache over TLS"], programs.node_tls_caches, (caches,)),
     (["C cache"], programs.c_caches, (caches, saves, cuts, handovers)),
     (["Rust"], programs.rust_clients, (clients, waits)),
     (["Rust that counts"], programs.counting_rust_clients, (clients,)),
     (["Go"], programs.go_clients, (clients, waits)),
+    (["Go over TLS"], programs.go_tls_clients, (clients,)),
     (["Go cache"], programs.go_caches, (caches,)),
+    (["Go cache over TLS"], programs.go_tls_caches, (caches,)),
     (["Go cache that saves"], programs.traced_go_caches, (saves, cuts, handovers)),
     (["rtr-cache"], programs.rtr_caches, (caches, saves, cuts, handovers)),
     (["Rust cache"], programs.rust_caches, (caches, saves, cuts, handovers)),
     (["tokio"], programs.tokio_clients, (clients, waits)),
     (["tokio cache"], programs.tokio_caches, (caches, saves, cuts, handovers)),
+    (["Rust over TLS", "tokio over TLS"], programs.rust_tls_clients, (clients,)),
+    (["Rust cache over TLS", "tokio cache over TLS"], programs.rust_tls_caches, (caches,)),
     (["Python cache"], programs.python_caches, (caches, saves, cuts, handovers)),
+    (["Python cache over TLS"], programs.python_tls_caches, (caches,)),
 )
 
 

@@ -23,6 +23,7 @@ type faults struct {
 	words  []word
 	counts map[string]uint64
 	seen   string // the file that gets a line for each fault
+	secured
 }
 
 func newFaults(text, seen string) *faults {
@@ -129,10 +130,10 @@ func (c conn) Write(bytes []byte) (int, error) {
 	}
 }
 
-// socket is a connection of a server, which writes answers to the descriptor itself. Their faults
-// are real: a write that has to wait goes to a full socket first, one that breaks to a socket
-// without a peer, and short ones to a small buffer of the system. A write that doesn't wait is then
-// over.
+// socket is a connection below TLS, or one of a server, which writes answers to the descriptor
+// itself. Their faults are real: a write that has to wait goes to a full socket first, one that
+// breaks to a socket without a peer, and short ones to a small buffer of the system. A write that
+// doesn't wait is then over.
 type socket struct{ conn }
 
 // Write writes all, as net does after short writes.
@@ -235,5 +236,5 @@ func (f *faults) dial(connect func() (net.Conn, error)) (net.Conn, error) {
 	if err != nil {
 		return nil, err
 	}
-	return conn{connection.(*net.TCPConn), f}, nil
+	return f.client(conn{connection.(*net.TCPConn), f}), nil
 }

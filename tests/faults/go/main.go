@@ -3,9 +3,10 @@
 //
 // usage:
 //
-//	faulty ADDRESS --version N     prints the lines of rtr_diff
-//	faulty FILE --listen ADDRESS
+//	faulty [--tls IDENTITY] ADDRESS --version N     prints the lines of rtr_diff
+//	faulty [--tls IDENTITY] FILE --listen ADDRESS
 //
+// IDENTITY is a file with a certificate for localhost, by which both ends are known, and its key.
 // If FAULTS_PAUSE has milliseconds, the client reconnects after these. If FAULTS_MEMORY names a
 // file, that gets a line at each hundredth end of a connection: how many objects and bytes are
 // allocated, after garbage collections.
@@ -38,15 +39,25 @@ func main() {
 	if path := os.Getenv("FAULTS_STATE"); path != "" {
 		writeStates(path)
 	}
-	injected := newFaults(os.Getenv("FAULTS"), os.Getenv("FAULTS_SEEN"))
-	run := follow
-	if os.Args[2] == "--listen" {
-		run = serve
-	}
-	if err := run(ctx, injected, os.Args[1:]); err != nil && !errors.Is(err, context.Canceled) {
+	if err := run(ctx, os.Args[1:]); err != nil && !errors.Is(err, context.Canceled) {
 		fmt.Fprintln(os.Stderr, err)
 		os.Exit(1)
 	}
+}
+
+// run runs the program of these words.
+func run(ctx context.Context, words []string) (err error) {
+	injected := newFaults(os.Getenv("FAULTS"), os.Getenv("FAULTS_SEEN"))
+	if words[0] == "--tls" {
+		if injected.secured, err = newSecured(words[1]); err != nil {
+			return err
+		}
+		words = words[2:]
+	}
+	if words[1] == "--listen" {
+		return serve(ctx, injected, words)
+	}
+	return follow(ctx, injected, words)
 }
 
 // writeStates starts to write the state at signals.
@@ -173,7 +184,7 @@ func serve(ctx context.Context, injected *faults, words []string) error {
 		return err
 	}
 	printLine("listening on", inner.Addr())
-	go func() { printLine(server.Serve(listener{inner, injected})) }()
+	go func() { printLine(server.Serve(injected.listener(listener{inner, injected}))) }()
 	server.Watch(ctx, words[0], interval, func(data rtr.Data, err error) {
 		if err != nil {
 			printLine(err)
