@@ -17,7 +17,7 @@ use Rattle.data_slices.specs.Order.{AreOf, IsOther, IsStray, IsStrayAt, Sends}
 use Rattle.data_slices.specs.declared.fault.Flaw.{Flaw}
 use Rattle.data_slices.specs.declared.fault.Reason.{Reason}
 use Rattle.data_slices.specs.declared.fault.Reason.TheVariants.{NotCanonical, Refused}
-use Rattle.data_slices.proofs.UnitsAt.{faulty}
+use Rattle.data_slices.proofs.Sequences.{not_refused}
 
 -- a unit or an end of data of the version begins there
 abbrev Starts : List ℕ → ℕ → Type 0
@@ -91,9 +91,9 @@ not_other (Some w) v ms left (some, of) all (inr (d, is)) (inr (x, not)) =
 not_stray : (reason : Reason) (version : Option ℕ) (v : ℕ) (ms : List Meaning) (left : List ℕ) →
     AreOf version ms → AllOf v ms → Starts left v → IsStray reason version left → ⊥
 not_stray (Refused f) version v ms left of all (inl (u, is)) h =
-    faulty f left h (begins_unit_none left u)
+    not_refused f left h (begins_unit_none left u)
 not_stray (Refused f) version v ms left of all (inr (d, is)) h =
-    faulty f left h (begins_end_none left d)
+    not_refused f left h (begins_end_none left d)
 not_stray NotCanonical version v ms left of all s h = not_other version v ms left of all s h
 
 pub no_stray : (input : List ℕ) (f : Flaw) (cs : List Change) (e : EndMeaning) →

@@ -13,37 +13,22 @@ use Rattle.std.specs.Option.{option_map}
 use Rattle.std.specs.Ordering.{is_lt}
 use Rattle.rtr_units.specs.AnyEnd.{end_meaning}
 use Rattle.rtr_units.specs.declared.end.EndOfData.{EndOfData}
-use Rattle.rtr_payload.specs.FirstFault.{BeginsUnit, first_fault}
+use Rattle.rtr_payload.specs.FirstFault.{BeginsUnit}
 use Rattle.rtr_payload.specs.Payloads.{Meaning}
 use Rattle.rtr_payload.proofs.Apart.{begins_apart}
 use Rattle.rtr_payload.proofs.Fields.{units_same}
 use Rattle.rtr_payload.proofs.Rests.{begins_unit_none}
 use Rattle.unit_views.specs.Faults.{IsFirstFault}
 use Rattle.unit_views.specs.declared.fault.ViewFault.{ViewFault}
-use Rattle.unit_views.specs.declared.fault.ViewFault.TheVariants.{Writer, Short, UnitType}
-use Rattle.unit_views.specs.declared.fault.ViewFault.TheVariants.{UnitLength, TooLong}
-use Rattle.unit_views.specs.declared.fault.ViewFault.TheVariants.{EmptyProviders, UnitVersion}
-use Rattle.unit_views.specs.declared.fault.ViewFault.TheVariants.{Prefix, TooMany}
 use Rattle.data_slices.specs.Items.{IsItem, meant}
 use Rattle.data_memory.proofs.Names.{name_total}
 use Rattle.data_slices.specs.PrivateOffsets.{MeansAt, Views, ViewsAt, offset_cmp}
 use Rattle.data_slices.specs.declared.item.Item.TheVariants as items
 use Rattle.data_slices.specs.declared.item.PayloadView.{PayloadView}
-
--- what has a fault begins with no unit
-pub faulty : (e : ViewFault) (r : List ℕ) → IsFirstFault r e → first_fault r ≡ None → ⊥
-faulty (Writer x) r h n = h
-faulty Short r h n = let s = sym n ∙ h in absurd cc
-faulty (UnitType t) r h n = let s = sym n ∙ h in absurd cc
-faulty UnitLength r h n = let s = sym n ∙ h in absurd cc
-faulty TooLong r h n = let s = sym n ∙ h in absurd cc
-faulty EmptyProviders r h n = let s = sym n ∙ h in absurd cc
-faulty (UnitVersion v) r h n = let s = sym n ∙ h in absurd cc
-faulty (Prefix rule) r h n = let s = sym n ∙ h in absurd cc
-faulty TooMany r h n = h
+use Rattle.data_slices.proofs.Sequences.{not_refused}
 
 pub no_unit_at_fault : (e : ViewFault) (r : List ℕ) → IsFirstFault r e → BeginsUnit r → ⊥
-no_unit_at_fault e r h u = faulty e r h (begins_unit_none r u)
+no_unit_at_fault e r h u = not_refused e r h (begins_unit_none r u)
 
 pub no_unit_where : (e : ViewFault) (r : List ℕ) (o : ℕ) →
     IsFirstFault (take (length r - o) (drop o r)) e → BeginsUnit (drop o r) → ⊥
