@@ -239,7 +239,7 @@ on_apply s r r' n n' u on t w d x =
     (after_same s r r' w.same_version w.same.has_data w.resync)))
 
 -- it falls to a lower version
-lower : (r r' : Router) (e : Event) → FallsOver r e r' → r'.version < r.version
+pub lower : (r r' : Router) (e : Event) → FallsOver r e r' → r'.version < r.version
 lower r r' (events.Came u) w = w.lower
 lower r r' events.Lost w = below r'.version r.version w.by_one
   where

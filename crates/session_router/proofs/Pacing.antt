@@ -16,7 +16,7 @@ use Rattle.session_router.specs.declared.event.Action.TheVariants as actions
 use Rattle.session_router.specs.declared.event.Ending.{Ending}
 use Rattle.session_router.specs.declared.event.Cause.{Cause}
 use Rattle.session_router.specs.declared.event.Cause.TheVariants as causes
-use Rattle.session_router.specs.Rules.{Asks, ClosesBy, Connects, FallsOver, Loses, Rule, Waits}
+use Rattle.session_router.specs.Rules.{Asks, ClosesBy, Connects, Loses, Rule, Waits}
 use Rattle.session_router.specs.Rules.{awaits_changes, query}
 use Rattle.session_router.specs.Pace.{Paces, PacesAsk, PacesDrop, PacesEnd, PacesWait}
 use Rattle.session_router.specs.Pace.{due_waiting, grows, grows_slow, rest, soonest}
@@ -26,6 +26,7 @@ use Rattle.session_router.specs.Asking.{Asking, IsPaced, IsTimed, PacedHere, ask
 use Rattle.session_router.specs.Asking.{latest}
 use Rattle.session_router.specs.Asking.{weight}
 use Rattle.session_router.proofs.Settled.{ends_settled, settled}
+use Rattle.session_router.proofs.Acting.{lower}
 
 record Fell (x : Asking) (r : Router) : Type 0 where
   fell : r.fell ≡ true
@@ -214,19 +215,6 @@ connect_at p r r' t n w x a (inl y) =
     inr (lt_by r'.version r.version x.query.version
     (w.version ∙ ap (λ (b : Bool). if b then r.version else r.settings.highest) y.fell) y.version)
 connect_at p r r' t n w x a (inr y) = inl (paused x.at n p r.due y w.due)
-
-lower : (r r' : Router) (e : Event) → FallsOver r e r' → r'.version < r.version
-lower r r' (events.Came u) w = w.lower
-lower r r' events.Lost w = below r'.version r.version w.by_one
-  where
-    below : (a b : ℕ) → a + 1 ≡ b → a < b
-    below a b e = omega arith
-lower r r' events.Tick w = absurd w
-lower r r' events.Asked w = absurd w
-lower r r' events.Connected w = absurd w
-lower r r' (events.Faulty f) w = absurd w
-lower r r' events.Applied w = absurd w
-lower r r' (events.NotApplied code) w = absurd w
 
 -- a failure is followed by a pause at least
 rest_most : (r : Router) (x : ℕ) → r.settings.pause ≤ max r.settings.pause x
