@@ -57,6 +57,7 @@ use Rattle.session_router.proofs.Settled.{settled}
 use Rattle.session_router.proofs.Recovering.{acts_after, recovers_after}
 use Rattle.session_router.proofs.Serving.{recovers_offline}
 use Rattle.session_router.proofs.Rising.{highest_of_both}
+use Rattle.session_router.proofs.Pacing.{query_by}
 
 -- ---- what both have, by where the connection is
 
@@ -181,16 +182,6 @@ record Says (r : Router) (q : Query) : Type 0 where
   changes : q.changes ≡ r.changes
   serial : r.changes ≡ true → q.serial ≡ r.known.serial
 
-abbrev query_if : Router → Bool → Query
-query_if r b = if b
-    then record {
-      changes = true;
-      version = r.version;
-      session = r.known.session;
-      serial = r.known.serial;
-    }
-    else record { changes = false; version = r.version; session = 0; serial = 0 }
-
 says : (r : Router) (q : Query) → q ≡ query r → Says r q
 says r q e = subst (λ (q : Query). Says r q) (sym e) (record {
   version = version r.changes;
@@ -198,15 +189,15 @@ says r q e = subst (λ (q : Query). Says r q) (sym e) (record {
   serial = serial r.changes;
 })
   where
-    version : (b : Bool) → (query_if r b).version ≡ r.version
+    version : (b : Bool) → (query_by r b).version ≡ r.version
     version true = refl
     version false = refl
 
-    changes : (b : Bool) → (query_if r b).changes ≡ b
+    changes : (b : Bool) → (query_by r b).changes ≡ b
     changes true = refl
     changes false = refl
 
-    serial : (b : Bool) → b ≡ true → (query_if r b).serial ≡ r.known.serial
+    serial : (b : Bool) → b ≡ true → (query_by r b).serial ≡ r.known.serial
     serial true e = refl
     serial false e = cc
 

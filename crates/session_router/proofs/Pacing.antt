@@ -99,7 +99,7 @@ reset_weighs v w false true e f g = omega arith
 reset_weighs v w false false e f g = cc
 
 -- a query, by whether it asks for changes
-abbrev query_by : Router → Bool → Query
+abbrev pub query_by : Router → Bool → Query
 query_by r b =
     if b
     then record {
