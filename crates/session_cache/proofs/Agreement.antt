@@ -22,6 +22,7 @@ use Rattle.session_router.specs.Rules.{Drops}
 use Rattle.session_router.specs.Rules.{HasNoData, IsPayloadOf, Keeps, Loses, PassesOver, Rule}
 use Rattle.session_router.specs.Rules.{SameKnown}
 use Rattle.session_router.specs.Rules.{SameTalk, Waits, query}
+use Rattle.session_router.proofs.Pacing.{query_by}
 use Rattle.session_cache.specs.declared.cache.Cache.{Cache}
 use Rattle.session_cache.specs.declared.event.CacheEvent.TheVariants as told
 use Rattle.session_cache.specs.declared.event.Answer.{Answer}
@@ -39,7 +40,6 @@ use Rattle.session_cache.proofs.Had.{Archive, AreAmong, IsArchive, IsOld, WasPre
 use Rattle.session_cache.proofs.Had.{archive_before, first_of, is_archive, present_news}
 use Rattle.session_cache.proofs.Had.{present_old}
 use Rattle.session_cache.proofs.Had.{source_before}
-use Rattle.session_cache.proofs.Answering.{asking}
 use Rattle.session_cache.proofs.Answering.{Coming, EndsHere, Left, Quiet, UnderWay, answer_comes}
 use Rattle.session_cache.proofs.Answering.{at_same, coming_after, coming_more, coming_news}
 use Rattle.session_cache.proofs.Answering.{left_more}
@@ -277,11 +277,11 @@ old_shown : (D C : Type 0) (S : Source D C) (A : Archive D) (had : List (Edition
     (s : Bool) → r.changes ≡ s → (r.changes ≡ true → AsksOwn r)
     → (r.has_data ≡ true → HasSame D C S A had r h)
     → old_of D C S A (query r) ≡ (if s then h.shown else None)
-old_shown D C S A had r h false e own has = ap (λ (s : Bool). old_of D C S A (asking r s)) e
+old_shown D C S A had r h false e own has = ap (λ (s : Bool). old_of D C S A (query_by r s)) e
 old_shown D C S A had r h true e own has =
     let o : AsksOwn r = own e in
     let y : HasSame D C S A had r h = has o.has_data in
-    ap (λ (s : Bool). old_of D C S A (asking r s)) e
+    ap (λ (s : Bool). old_of D C S A (query_by r s)) e
     ∙ at_same D C S A r.version r.known.version r.known.session r.known.session r.known.serial
     r.known.serial (sym o.version) refl refl
     ∙ sym y.same

@@ -5,8 +5,8 @@ use Rattle.std.proofs.Common.{append_assoc, append-nil}
 use Rattle.session_router.specs.declared.head.Head.{Head}
 use Rattle.session_router.specs.declared.head.Query.{Query}
 use Rattle.session_router.specs.declared.head.Kind.TheVariants as kinds
-use Rattle.session_router.specs.declared.router.Router.{Router}
 use Rattle.session_router.specs.Rules.{IsPayloadOf}
+use Rattle.session_router.proofs.Pacing.{query_by}
 use Rattle.session_cache.specs.declared.cache.Cache.{Cache}
 use Rattle.session_cache.specs.declared.event.CacheEvent.{CacheEvent}
 use Rattle.session_cache.specs.declared.event.CacheEvent.TheVariants as told
@@ -252,15 +252,3 @@ notifies D C S c c' n m old p told.Lost answers.NoData t w = absurd w
 notifies D C S c c' n m old p told.Full _ t w = absurd t
 notifies D C S c c' n m old p (told.Came u kept) _ t w = absurd t
 notifies D C S c c' n m old p (told.Faulty f) _ t w = absurd t
-
--- what a router asks, where it asks for changes or not
-abbrev pub asking : Router → Bool → Query
-asking r changes =
-    if changes
-    then record {
-      changes = true;
-      version = r.version;
-      session = r.known.session;
-      serial = r.known.serial;
-    }
-    else record { changes = false; version = r.version; session = 0; serial = 0 }

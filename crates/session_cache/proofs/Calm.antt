@@ -32,6 +32,7 @@ use Rattle.session_router.specs.Rules.{AsksOwn, Drops, IsPayloadOf, Rule, query}
 use Rattle.session_router.specs.Step.{IsStep}
 use Rattle.session_router.proofs.Connections.{Holds}
 use Rattle.session_router.proofs.Serving.{recovers}
+use Rattle.session_router.proofs.Versions.{Stands}
 use Rattle.session_cache.specs.declared.cache.Cache.{Cache}
 use Rattle.session_cache.specs.declared.event.Answer.{Answer}
 use Rattle.session_cache.specs.declared.event.Answer.TheVariants as answers
@@ -525,10 +526,6 @@ quiet_then C p r tr ys phases.Waiting q y =
     record { quiet = quiet_of_more C p tr ys y.quiet q; own = y.own }
 
 -- ---- a connection that is there was made by a router that hasn't fallen since
-
-abbrev Stands : Phase → Router → Type 0
-Stands phases.Offline r = Unit {0}
-Stands _ r = r.fell ≡ false
 
 stands_at : (f : Phase) (r : Router) → r.phase ≡ f → Stands f r → Stands r.phase r
 stands_at f r e x = subst (λ f. Stands f r) (sym e) x

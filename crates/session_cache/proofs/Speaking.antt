@@ -8,6 +8,7 @@ use Rattle.session_router.specs.declared.head.Kind.TheVariants as kinds
 use Rattle.session_router.specs.declared.router.Router.{Router}
 use Rattle.session_router.specs.Rules.{IsPayloadOf}
 use Rattle.session_router.specs.Rules.{SameKnown, query}
+use Rattle.session_router.proofs.Pacing.{query_by}
 use Rattle.session_cache.specs.declared.cache.Cache.{Cache}
 use Rattle.session_cache.specs.declared.event.Present.{Present}
 use Rattle.session_cache.specs.declared.event.CacheEvent.{CacheEvent}
@@ -21,23 +22,22 @@ use Rattle.session_cache.specs.Worlds.{Sent, Source, TellsCache, WasHad}
 use Rattle.session_cache.specs.Worlds.{cache_writes, change_unit, data_end, query_head, report_sent}
 use Rattle.session_cache.specs.Worlds.{response}
 use Rattle.session_cache.proofs.Had.{IsOld}
-use Rattle.session_cache.proofs.Answering.{asking}
 
 -- ---- the query of a router
 
 pub query_version : (r : Router) (s : Bool) → r.changes ≡ s → (query r).version ≡ r.version
-query_version r false e = ap (λ (s : Bool). (asking r s).version) e
-query_version r true e = ap (λ (s : Bool). (asking r s).version) e
+query_version r false e = ap (λ (s : Bool). (query_by r s).version) e
+query_version r true e = ap (λ (s : Bool). (query_by r s).version) e
 
 pub query_changes : (r : Router) (s : Bool) → r.changes ≡ s → (query r).changes ≡ r.changes
-query_changes r false e = ap (λ (s : Bool). (asking r s).changes) e ∙ sym e
-query_changes r true e = ap (λ (s : Bool). (asking r s).changes) e ∙ sym e
+query_changes r false e = ap (λ (s : Bool). (query_by r s).changes) e ∙ sym e
+query_changes r true e = ap (λ (s : Bool). (query_by r s).changes) e ∙ sym e
 
 pub query_session : (r : Router) → r.changes ≡ true → (query r).session ≡ r.known.session
-query_session r e = ap (λ (s : Bool). (asking r s).session) e
+query_session r e = ap (λ (s : Bool). (query_by r s).session) e
 
 pub query_serial : (r : Router) → r.changes ≡ true → (query r).serial ≡ r.known.serial
-query_serial r e = ap (λ (s : Bool). (asking r s).serial) e
+query_serial r e = ap (λ (s : Bool). (query_by r s).serial) e
 
 pub same_query : (r r' : Router) → SameKnown r r' → r'.version ≡ r.version → r'.changes ≡ r.changes
     → query r' ≡ query r

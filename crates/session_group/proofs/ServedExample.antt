@@ -7,20 +7,17 @@ use Rattle.session_router.specs.declared.head.Head.{Head}
 use Rattle.session_router.specs.declared.head.Kind.{Kind}
 use Rattle.session_router.specs.declared.head.Kind.TheVariants as kinds
 use Rattle.session_router.specs.declared.router.Router.{Router}
-use Rattle.session_router.specs.declared.router.Phase.{Phase}
-use Rattle.session_router.specs.declared.router.Phase.TheVariants as phases
 use Rattle.session_router.specs.declared.event.Event.TheVariants as router_events
 use Rattle.session_router.specs.declared.event.Action.TheVariants as actions
 use Rattle.session_router.specs.Examples.{query_for_all, unit_of_kind}
-use Rattle.session_router.specs.Pace.{IsLimited}
 use Rattle.session_router.specs.Step.{IsStep}
 use Rattle.session_router.specs.After.{new_router, once_asked, once_begun, once_completed}
 use Rattle.session_router.specs.After.{once_connected}
 use Rattle.session_router.specs.Exchange.{Exchange, exchange_after, none_yet}
-use Rattle.session_router.specs.Recovery.{ComesInTime}
 use Rattle.session_router.specs.Recovery.AnswersWell.{responds}
 use Rattle.session_router.specs.Recovery.GoesOnWell.{ends_data}
 use Rattle.session_router.proofs.Steps.{asks_at, begins_at, completes_at, connects_at}
+use Rattle.session_router.proofs.Examples.{untimed}
 use Rattle.session_group.specs.Groups.{tick_answer}
 use Rattle.session_group.specs.Ends.{End, end_after, with_end, with_fresh}
 use Rattle.session_group.specs.Ends.IsGroup.{group_begins}
@@ -41,10 +38,6 @@ lt a b = omega arith
 
 clash : false ≡ true → ⊥
 clash p = grind arith
-
-untimed : (x : Exchange) (n : ℕ) → x.phase ≡ phases.Offline → ComesInTime x n
-untimed x n q (inl l) = absurd (subst (λ (p : Phase). IsLimited p) q l)
-untimed x n q (inr e) = cc
 
 -- a unit of version 2
 abbrev unit : Kind → Head

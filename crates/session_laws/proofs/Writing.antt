@@ -31,6 +31,7 @@ use Rattle.session_router.specs.declared.event.Action.TheVariants as actions
 use Rattle.session_router.specs.declared.event.Event.{Event}
 use Rattle.session_router.specs.declared.router.Router.{Router}
 use Rattle.session_router.specs.Rules.{IsPayloadOf, Rule, query}
+use Rattle.session_router.proofs.Pacing.{query_by}
 use Rattle.session_cache.specs.declared.cache.Cache.{Cache}
 use Rattle.session_cache.specs.declared.event.Answer.{Answer}
 use Rattle.session_cache.specs.declared.event.Answer.TheVariants as answers
@@ -42,7 +43,6 @@ use Rattle.session_cache.specs.CacheRules.{CacheRule}
 use Rattle.session_cache.specs.Worlds.{Sent, cache_writes, change_unit, data_end, plain_head}
 use Rattle.session_cache.specs.Worlds.{plain_unit}
 use Rattle.session_cache.specs.Worlds.{report_sent, sized_report, response, router_writes}
-use Rattle.session_cache.proofs.Answering.{asking}
 use Rattle.session_bytes.specs.Heads.{HasHead, bare_head, head_of, payload_head}
 use Rattle.session_laws.specs.Editions.{PayloadEdition, answered_with, edition_of}
 use Rattle.session_laws.specs.Editions.{payload_source, unit_kind}
@@ -359,10 +359,10 @@ query_has q false is none hv hs hn =
 names_none : (r : Router) (changes : Bool) → r.changes ≡ changes → (query r).changes ≡ false →
     ((query r).session ≡ 0) × ((query r).serial ≡ 0)
 names_none r true is none =
-    let changes = ap (λ (s : Bool). (asking r s).changes) is in absurd cc
+    let changes = ap (λ (s : Bool). (query_by r s).changes) is in absurd cc
 names_none r false is none = (
-  ap (λ (s : Bool). (asking r s).session) is,
-  ap (λ (s : Bool). (asking r s).serial) is,
+  ap (λ (s : Bool). (query_by r s).session) is,
+  ap (λ (s : Bool). (query_by r s).serial) is,
 )
 
 pub record IsAsked (a : Action) : Type 0 where

@@ -107,7 +107,7 @@ is_timed = (
 
 -- ---- a cache that keeps the rules serves it
 
-untimed : (x : Exchange) (n : ℕ) → x.phase ≡ phases.Offline → ComesInTime x n
+pub untimed : (x : Exchange) (n : ℕ) → x.phase ≡ phases.Offline → ComesInTime x n
 untimed x n q (inl l) = absurd (subst (λ (p : Phase). IsLimited p) q l)
 untimed x n q (inr e) = cc
 

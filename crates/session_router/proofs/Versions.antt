@@ -187,7 +187,7 @@ Tries phases.Connecting m r o = (r.version ≡ m) ⊎ (o ≡ Some causes.Lower)
 Tries _ m r o = Unit {0}
 
 -- a router that has a connection didn't fall
-abbrev Stands : Phase → Router → Type 0
+abbrev pub Stands : Phase → Router → Type 0
 Stands phases.Offline r = Unit {0}
 Stands _ r = r.fell ≡ false
 
