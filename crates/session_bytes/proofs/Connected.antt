@@ -3,18 +3,14 @@ use Rattle.std.proofs.Common.{ℕ, Bool, List, sym, subst}
 use Rattle.session_cache.specs.Connections.{CacheMoment, IsConnection}
 use Rattle.session_cache.specs.Connections.IsConnectionBy.{connection_goes_on}
 use Rattle.session_cache.specs.declared.cache.Cache.{Cache}
-use Rattle.session_cache.specs.declared.event.Answer.{Answer}
-use Rattle.session_cache.specs.declared.event.CacheEvent.{CacheEvent}
 use Rattle.session_cache.specs.declared.event.CacheEvent.TheVariants as events
 use Rattle.session_cache.specs.declared.event.Present.{Present}
 use Rattle.session_cache.specs.declared.settings.CacheSettings.{CacheSettings}
+use Rattle.session_cache.proofs.Orderly.{moment}
 use Rattle.session_bytes.specs.Reading.{fault_of}
 use Rattle.session_bytes.specs.Serving.{HearsRouter, ServesOn, is_kept}
 use Rattle.session_bytes.specs.declared.serving.Served.{Served}
 use Rattle.session_bytes.specs.declared.serving.Served.TheVariants as served
-
-abbrev moment : ℕ → Present → CacheEvent → Answer → CacheMoment
-moment n p e a = record { now = n; present = p; event = e; answer = a }
 
 pub serves_on : (s : CacheSettings) (ms : List CacheMoment) (c : Cache) (n : ℕ) (p : Present)
     (kept input : List ℕ) (ended : Bool) (came : Served) (c' : Cache) → IsConnection s ms c →

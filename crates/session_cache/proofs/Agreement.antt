@@ -184,7 +184,7 @@ drop_coming : (D C : Type 0) (S : Source D C) (A : Archive D) (had : List (Editi
 drop_coming D C S A had q tc x xs k (inl w) = inl (w.0, w.1.1)
 drop_coming D C S A had q tc x xs k (inr w) = inr (w.0, drop_notify D C S A had q x xs k w.1)
 
-no_payload : (v : ℕ) (k k' : Kind) → k ≡ k' → (IsPayloadOf v k' → ⊥) → IsPayloadOf v k → ⊥
+pub no_payload : (v : ℕ) (k k' : Kind) → k ≡ k' → (IsPayloadOf v k' → ⊥) → IsPayloadOf v k → ⊥
 no_payload v k k' e f p = f (subst (λ k. IsPayloadOf v k) e p)
 
 no_notify : (D C : Type 0) (S : Source D C) (A : Archive D) (had : List (Edition D))
@@ -560,7 +560,7 @@ on_connects D C S A had n actions.NoData r r' h tc tr c w y = absurd w
 
 -- ---- the cache answers
 
-cons_eq : (q : Query) (u : Head) (us : List Head) → query_head q ∷ [] ≡ u ∷ us
+pub cons_eq : (q : Query) (u : Head) (us : List Head) → query_head q ∷ [] ≡ u ∷ us
     → (query_head q ≡ u) × (us ≡ [])
 cons_eq q u us e = (cc, cc)
 

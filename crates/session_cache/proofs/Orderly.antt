@@ -176,7 +176,7 @@ record Steps (s : CacheSettings) (m : CacheMoment) (ms : List CacheMoment) (c' :
 abbrev KeepsTo : CacheSettings → List CacheMoment → Cache → Type 0
 KeepsTo s ms c = Keeps s c (last_notify ms) (answered_version ms) (told_session ms) (has_ended ms)
 
-abbrev moment : ℕ → Present → CacheEvent → Answer → CacheMoment
+abbrev pub moment : ℕ → Present → CacheEvent → Answer → CacheMoment
 moment n p e a = record { now = n; present = p; event = e; answer = a }
 
 alive : (c c' : Cache) (b : Bool) → c'.live ≡ c.live → (b ≡ true → c.live ≡ false)

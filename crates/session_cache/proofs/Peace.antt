@@ -49,6 +49,7 @@ use Rattle.session_cache.proofs.Speaking.{Coming, InVersion, Left, Notified, Qui
 use Rattle.session_cache.proofs.Speaking.{answer_comes, coming_after, coming_more, in_version}
 use Rattle.session_cache.proofs.Speaking.{left_more, notifies, query_changes, query_serial}
 use Rattle.session_cache.proofs.Speaking.{query_session, query_version, quiet_more, same_query}
+use Rattle.session_cache.proofs.Agreement.{cons_eq, no_payload}
 
 -- ---- what holds in each phase
 
@@ -139,9 +140,6 @@ drop_coming : (C : Type 0) (q : Query) (tc : List Head) (x : Sent C) (xs : List 
     → x.head.kind ≡ kinds.SerialNotify → UnderWay C q tc (x ∷ xs) → UnderWay C q tc xs
 drop_coming C q tc x xs k (inl w) = inl (w.0, w.1.2)
 drop_coming C q tc x xs k (inr w) = inr (w.0, drop_notify C q x xs k w.1)
-
-no_payload : (v : ℕ) (k k' : Kind) → k ≡ k' → (IsPayloadOf v k' → ⊥) → IsPayloadOf v k → ⊥
-no_payload v k k' e f p = f (subst (λ k. IsPayloadOf v k) e p)
 
 no_notify : (C : Type 0) (q : Query) (s n : ℕ) (x : Sent C) (xs : List (Sent C))
     → x.head.kind ≡ kinds.SerialNotify → Left C q s n (x ∷ xs) → ⊥
@@ -377,10 +375,6 @@ on_connects C n actions.Keep r r' c p e w = absurd w
 on_connects C n (actions.Apply z) r r' c p e w = absurd w
 on_connects C n actions.Show r r' c p e w = absurd w
 on_connects C n actions.NoData r r' c p e w = absurd w
-
-cons_eq : (q : Query) (u : Head) (us : List Head) → query_head q ∷ [] ≡ u ∷ us
-    → (query_head q ≡ u) × (us ≡ [])
-cons_eq q u us e = (cc, cc)
 
 no_more : (u : Head) (us tc : List Head) → tc ≡ u ∷ us → tc ≡ [] → ⊥
 no_more u us tc e f = cc
