@@ -180,7 +180,7 @@ abbrev pub caller : Caller (List ℕ) (List ℕ)
 caller = record { settings = settings; make = makes }
 
 -- as `apply_in_order` makes them
-sends : Sends data_bytes (announcement prefix ∷ []) end
+pub sends : Sends data_bytes (announcement prefix ∷ []) end
 sends = record {
   bytes = data_bytes;
   accepts = record {
@@ -196,7 +196,7 @@ sends = record {
   };
 }
 
-in_order : AppliesInOrder (Ok 44) end_bytes data_bytes 1 data_bytes data_bytes
+pub in_order : AppliesInOrder (Ok 44) end_bytes data_bytes 1 data_bytes data_bytes
 in_order = (
   [],
   end,

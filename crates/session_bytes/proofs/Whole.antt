@@ -241,7 +241,7 @@ pub record Written (d : List Payload) (cs : List Change) (e : EndMeaning) (new :
   pub made : after_all cs (Ok d) ≡ Ok payloads
   pub holds : HoldsData new payloads e
 
-front_is : (n : ℕ) (piece rest after : List ℕ) → n ≡ length piece → after ≡ piece ++ rest →
+pub front_is : (n : ℕ) (piece rest after : List ℕ) → n ≡ length piece → after ≡ piece ++ rest →
     take n after ≡ piece
 front_is n piece rest after size is =
     (λ i. take (size i) (is i)) ∙ take-append_seam piece rest

@@ -1,10 +1,7 @@
 -- A client that the prover computes, which shows data: so the premise of
 -- `only_whole_answers_are_shown` is met. It connects, asks for all data, and gets a prefix.
-use Rattle.std.proofs.Common.{◌≡◌, List, [], ◌∷◌, Option, Some, None, Ok, refl, sym, subst}
-use Rattle.std.proofs.Common.{lit≤, true, false}
-use Rattle.data_memory.specs.Data.{announcement}
-use Rattle.data_slices.specs.InOrder.{AppliesInOrder}
-use Rattle.data_slices.specs.Order.{Sends}
+use Rattle.std.proofs.Common.{◌≡◌, List, [], ◌∷◌, Option, Some, None, refl, sym, subst}
+use Rattle.std.proofs.Common.{true, false}
 use Rattle.session_router.specs.declared.event.Action.TheVariants as actions
 use Rattle.session_router.specs.declared.event.Event.TheVariants as events
 use Rattle.session_router.specs.Histories.{Caller, Host, IsHistory, Moment, at, empty_host}
@@ -18,10 +15,9 @@ use Rattle.session_cache.proofs.ExampleWorlds.{payload_head, reading, response_h
 use Rattle.session_cache.proofs.ExampleWorlds.{settings}
 use Rattle.session_cache.proofs.ExampleWorlds.{waiting}
 use Rattle.session_bytes.specs.ShownData.{AreHeard}
-use Rattle.session_bytes.proofs.Examples.{data_bytes, end, end_bytes, end_has_head, is_end}
-use Rattle.session_bytes.proofs.Examples.{is_prefix, prefix, prefix_bytes, prefix_has}
+use Rattle.session_bytes.proofs.Examples.{data_bytes, end_bytes, end_has_head, in_order}
+use Rattle.session_bytes.proofs.Examples.{prefix, prefix_bytes, prefix_has}
 use Rattle.session_bytes.proofs.Examples.{response_bytes, response_has}
-use Rattle.session_bytes.proofs.Whole.{alone}
 use Rattle.session_client.specs.Holding.{IsClient, ShowsFront}
 use Rattle.session_client.specs.Makings.{MadeAnswer, Octets, WasMade}
 use Rattle.session_client.specs.declared.client.Client.{Client}
@@ -40,32 +36,8 @@ example = record {
   closed = false;
 }
 
--- what `apply_in_order` made of the answer
-sends : Sends data_bytes (announcement prefix ∷ []) end
-sends = record {
-  bytes = data_bytes;
-  accepts = record {
-    rest = [];
-    parts = refl;
-    sequence = record {
-      front = prefix_bytes;
-      last = end_bytes;
-      parts = refl;
-      units = (prefix_bytes, [], refl, is_prefix, refl);
-      end = is_end;
-    };
-  };
 }
 
-in_order : AppliesInOrder (Ok 44) end_bytes data_bytes 1 data_bytes data_bytes
-in_order = (
-  [],
-  end,
-  announcement prefix ∷ [],
-  end,
-  alone end_bytes end is_end,
-  sends,
-  (refl, refl, (lit≤ tt, (prefix ∷ [], refl, (refl, lit≤ tt, refl)))),
 )
 
 abbrev pub made : MadeAnswer
@@ -101,7 +73,7 @@ history =
 abbrev makes_of : Caller Octets Octets → Option Octets
 makes_of c = c.make None (prefix_bytes ∷ []) end_bytes
 
-abbrev kept_host : Host Octets Octets
+abbrev pub kept_host : Host Octets Octets
 kept_host = record { kept = prefix_bytes ∷ []; made = None; shown = None }
 
 abbrev made_host : Caller Octets Octets → Host Octets Octets

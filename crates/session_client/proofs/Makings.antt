@@ -5,7 +5,6 @@ use Rattle.std.proofs.Common.{length, Option, Some, None, Ok, refl, sym, ap, sub
 use Rattle.std.proofs.Common.{if◌then◌else◌, ◌+◌, ◌≤◌, length-append}
 use Rattle.std.specs.Prelude.{◌&&◌, ◌==◌, Result, Err, unwrap_or}
 use Rattle.data_memory.specs.declared.change_error.ChangeError.{ChangeError}
-use Rattle.std.proofs.Math.Seq.{take-append_seam}
 use Rattle.std.proofs.lemmas.Bool.Decides.{nat_tests}
 use Rattle.std.specs.List.{concat}
 use Rattle.rtr_payload.specs.Payloads.{Payload}
@@ -17,6 +16,7 @@ use Rattle.data_slices.proofs.Ordering.{one_sequence}
 use Rattle.session_router.specs.declared.settings.Settings.{Settings}
 use Rattle.session_router.specs.Histories.{Caller}
 use Rattle.session_bytes.specs.ShownData.{AppliesAnswers, base_of}
+use Rattle.session_bytes.proofs.Whole.{front_is}
 use Rattle.session_client.specs.Holding.{SameShown, due_size}
 use Rattle.session_client.specs.Makings.{Octets, MakesThis, MakesAll, MadeAnswer, WasMade, WereMade}
 use Rattle.session_client.specs.Makings.{ShowsMade, onto}
@@ -24,11 +24,6 @@ use Rattle.session_client.specs.declared.client.Holding.{Holding}
 use Rattle.session_client.specs.declared.client.Holding.TheVariants as holdings
 
 -- ---- one and the same result
-
-front_is : (n : ℕ) (piece rest after : List ℕ) → n ≡ length piece → after ≡ piece ++ rest →
-    take n after ≡ piece
-front_is n piece rest after size is =
-    (λ i. take (size i) (is i)) ∙ take-append_seam piece rest
 
 abbrev of_ok : Result (List Payload) ChangeError → List Payload
 of_ok (Ok d) = d

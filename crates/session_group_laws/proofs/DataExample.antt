@@ -4,7 +4,6 @@
 use Rattle.std.proofs.Common.{◌≡◌, ℕ, false, None, List, [], ◌∷◌, refl}
 use Rattle.std.proofs.Common.{sym}
 use Rattle.data_memory.specs.Data.{announcement}
-use Rattle.data_slices.specs.Order.{Sends}
 use Rattle.session_router.specs.declared.event.Action.TheVariants as actions
 use Rattle.session_router.specs.declared.event.Event.TheVariants as router_events
 use Rattle.session_router.specs.declared.settings.Settings as routers
@@ -16,14 +15,14 @@ use Rattle.session_cache.proofs.ExampleCalm.{connects_so, keeps_so}
 use Rattle.session_cache.proofs.ExampleWorlds.{applying, asked, connecting, end_head, keeping}
 use Rattle.session_cache.proofs.ExampleWorlds.{payload_head, reading, response_head, router₀}
 use Rattle.session_cache.proofs.ExampleWorlds.{settings, waiting}
-use Rattle.session_bytes.proofs.Examples.{data_bytes, end, end_bytes, end_has_head, is_end}
-use Rattle.session_bytes.proofs.Examples.{is_prefix, prefix, prefix_bytes, prefix_has}
+use Rattle.session_bytes.proofs.Examples.{data_bytes, end, end_bytes, end_has_head, sends}
+use Rattle.session_bytes.proofs.Examples.{prefix, prefix_bytes, prefix_has}
 use Rattle.session_bytes.proofs.Examples.{response_bytes, response_has}
 use Rattle.session_client.specs.Counting.{IsCountedAnswer}
 use Rattle.session_client.specs.Makings.{Octets}
 use Rattle.session_client.specs.declared.client.Holding.TheVariants as holdings
 use Rattle.session_client.specs.declared.next.Todo.TheVariants as todos
-use Rattle.session_client.proofs.Example.{made, was}
+use Rattle.session_client.proofs.Example.{kept_host, made, was}
 use Rattle.session_client.proofs.Runs.{made_is, shows_made}
 use Rattle.session_group.specs.declared.event.Event.TheVariants as events
 use Rattle.session_group.specs.Runs.{first_caller}
@@ -48,9 +47,6 @@ until_read =
 abbrev until_whole : List (Moment Octets)
 until_whole =
     at 32 (router_events.Came end_head) end_bytes (actions.Apply false) ∷ until_read
-
-abbrev kept_host : Host Octets Octets
-kept_host = record { kept = prefix_bytes ∷ []; made = None; shown = None }
 
 abbrev made_host : Caller Octets Octets → Host Octets Octets
 made_host c = record {
@@ -90,20 +86,6 @@ completes_then : (c : Caller Octets Octets) → c.settings ≡ settings →
 completes_then c same = run_goes_on 32 end_bytes (router_events.Came end_head)
     (actions.Apply false) applying until_read keeping kept_host (keeps_then c same) tt completes_so
 
-sends : Sends data_bytes (announcement prefix ∷ []) end
-sends = record {
-  bytes = data_bytes;
-  accepts = record {
-    rest = [];
-    parts = refl;
-    sequence = record {
-      front = prefix_bytes;
-      last = end_bytes;
-      parts = refl;
-      units = (prefix_bytes, [], refl, is_prefix, refl);
-      end = is_end;
-    };
-  };
 }
 
 counted : IsCountedAnswer data_bytes 1
