@@ -23,6 +23,7 @@ use Rattle.unit_any.proofs.Units.{end_has, payload_has}
 use Rattle.data_memory.specs.Data.{announcement}
 use Rattle.data_slices.specs.InOrder.{AppliesInOrder}
 use Rattle.data_slices.specs.Order.{Sends}
+use Rattle.data_slices.proofs.AnyVersions.{alone}
 use Rattle.session_router.specs.declared.event.Action.TheVariants as actions
 use Rattle.session_router.specs.declared.event.Event.TheVariants as events
 use Rattle.session_router.specs.Histories.{Caller, Host, IsHistory, IsNew, Moment, at, empty_host}
@@ -37,7 +38,7 @@ use Rattle.session_cache.proofs.ExampleWorlds.{settings}
 use Rattle.session_cache.proofs.ExampleWorlds.{waiting}
 use Rattle.session_bytes.specs.Heads.{HasHead}
 use Rattle.session_bytes.specs.ShownData.{AppliesAnswers, AreHeard, ShowsAnswer, WritesAnswer}
-use Rattle.session_bytes.proofs.Whole.{alone, only_whole}
+use Rattle.session_bytes.proofs.Whole.{only_whole}
 
 -- ---- the bytes
 

@@ -19,7 +19,6 @@ use Rattle.data_memory.specs.Changes.{after_all}
 use Rattle.data_memory.specs.Data.{Change}
 use Rattle.data_memory.specs.Deltas.{unit_of}
 use Rattle.data_memory.specs.Sequences.{change_of}
-use Rattle.data_memory.proofs.Versions.{no_data}
 use Rattle.data_slices.specs.Apply.{data_form}
 use Rattle.data_slices.specs.Canonical.{HoldsData}
 use Rattle.data_slices.specs.InOrder.{AppliesInOrder}
@@ -30,6 +29,7 @@ use Rattle.data_slices.proofs.Ordering.{one_sequence}
 use Rattle.unit_any.specs.AnyFields.{AnyFields, HasAnyFields, serial_notify, serial_query}
 use Rattle.unit_any.specs.AnyFields.{reset_query, cache_response, payload, end_of_data}
 use Rattle.unit_any.specs.AnyFields.{cache_reset, error_report}
+use Rattle.data_slices.proofs.AnyVersions.{alone}
 use Rattle.session_router.specs.declared.head.Head.{Head}
 use Rattle.session_router.specs.declared.head.Kind.{Kind}
 use Rattle.session_router.specs.declared.head.Kind.TheVariants as kinds
@@ -221,16 +221,6 @@ sends k units last w = record {
   };
 }
 
--- an end of data alone is data of no payloads
-pub alone : (last : List ℕ) (e : EndMeaning) → IsEnd last e → HoldsData last [] e
-alone last e is = record {
-  bytes = last;
-  accepts = record {
-    rest = [];
-    parts = sym (append-nil last);
-    sequence = record { front = []; last = last; parts = refl; units = refl; end = is };
-  };
-  in_order = no_data;
 }
 
 -- ---- what is written

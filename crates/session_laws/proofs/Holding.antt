@@ -13,6 +13,7 @@ use Rattle.data_memory.specs.Data.{Change}
 use Rattle.data_memory.specs.Deltas.{unit_of}
 use Rattle.data_slices.specs.Canonical.{HoldsData}
 use Rattle.data_slices.specs.Order.{Sends}
+use Rattle.data_slices.proofs.AnyVersions.{alone}
 use Rattle.session_router.specs.declared.event.Action.{Action}
 use Rattle.session_router.specs.declared.event.Action.TheVariants as actions
 use Rattle.session_router.specs.declared.event.Ending.{Ending}
@@ -34,7 +35,7 @@ use Rattle.session_cache.proofs.Agreement.{keeps_one}
 use Rattle.session_bytes.specs.Heads.{HasHead, end_head}
 use Rattle.session_bytes.specs.Reading.{EndsConnection}
 use Rattle.session_bytes.specs.ShownData.{AppliesAnswers}
-use Rattle.session_bytes.proofs.Whole.{EndsAs, Written, alone, end_named, written}
+use Rattle.session_bytes.proofs.Whole.{EndsAs, Written, end_named, written}
 use Rattle.session_laws.specs.Editions.{PayloadHost, if_made, made_from, payload_source}
 use Rattle.session_laws.specs.Pipes.{Bytes, IsOnItsWay, TellsOfItself}
 
