@@ -1,17 +1,14 @@
 -- A run of a client and a cache that the prover computes, so that the premises of the laws are seen
 -- to be met: a reset query, a cache response, a prefix and an end of data.
 use native.Mathlib.Omega.{arith}
-use Rattle.std.proofs.Common.{◌≡◌, false, Some, None, List, [], ◌∷◌, ◌++◌, refl, sym}
-use Rattle.std.proofs.Common.{ap, ◌∙◌, append-nil, inl, inr, lit<, lit≤, subst, true}
-use Rattle.std.specs.List.Sorted.{IsStrictlySortedBy}
+use Rattle.std.proofs.Common.{false, Some, None, [], ◌∷◌, ◌++◌, refl}
+use Rattle.std.proofs.Common.{append-nil, inl, inr, lit<, lit≤, subst, true}
 use Rattle.rtr_base.specs.Bytes.{IsBytes}
 use Rattle.rtr_base.proofs.Numbers.{IsBytes-be}
 use Rattle.rtr_units.specs.Queries.{bare_list}
 use Rattle.rtr_units.proofs.Headers.{header_bytes}
-use Rattle.rtr_payload.specs.Payloads.{Payload}
 use Rattle.rtr_payload.proofs.Apart.{begins_apart}
 use Rattle.unit_any.specs.AnyFields.{reset_query}
-use Rattle.data_memory.specs.Data.{IsData}
 use Rattle.session_router.specs.declared.event.Action.TheVariants as actions
 use Rattle.session_router.specs.declared.event.Event.TheVariants as events
 use Rattle.session_router.specs.Exchange.{Exchange, exchange_after, none_yet}
@@ -21,8 +18,8 @@ use Rattle.session_router.specs.Recovery.AnswersWell.{responds}
 use Rattle.session_router.specs.Recovery.GoesOnWell.{ends_data, sends_payload}
 use Rattle.session_router.specs.Rules.{query}
 use Rattle.session_cache.specs.declared.event.Answer.TheVariants as answers
-use Rattle.session_cache.specs.Worlds.{Edition, IsIn, IsOneDataPerName, query_head}
-use Rattle.session_cache.proofs.Examples.{cache₀, named}
+use Rattle.session_cache.specs.Worlds.{query_head}
+use Rattle.session_cache.proofs.Examples.{cache₀}
 use Rattle.session_cache.proofs.ExampleCalm.{adopts_so, asks_so, begins_so, completes_so}
 use Rattle.session_cache.proofs.ExampleCalm.{connects_so, gives_all_so, keeps_so}
 use Rattle.session_cache.proofs.ExampleWorlds.{applying, asked, cache₁, connecting, end_head}
@@ -41,8 +38,8 @@ use Rattle.session_client.specs.declared.next.Todo.TheVariants as todos
 use Rattle.session_client.proofs.Example.{made, was}
 use Rattle.session_client.proofs.Runs.{made_is}
 use Rattle.session_client.proofs.Takes.{has_apply, has_kept, has_made}
-use Rattle.session_laws.specs.Editions.{PayloadEdition, editions_of}
-use Rattle.session_laws.specs.Written.{FitsEdition, router_bytes}
+use Rattle.session_laws.specs.Written.{router_bytes}
+use Rattle.session_laws.proofs.Examples.{edition, fits, is_one}
 use Rattle.session_client_laws.specs.Again.{IsServedAgain}
 use Rattle.session_client_laws.specs.Again.IsServedAgain.{again_calls, again_from}
 use Rattle.session_client_laws.specs.Again.IsServedAgain.{again_meanwhile, again_opens}
@@ -55,50 +52,8 @@ use Rattle.session_client_laws.specs.Served.WellServed.{served_more, served_none
 
 -- ---- the data of the cache
 
-pub is_data : IsData (prefix ∷ [])
-unfolding IsStrictlySortedBy
-is_data = (tt, tt)
-
-abbrev edition : PayloadEdition
-edition = record {
-  name = named 7 5;
-  payloads = prefix ∷ [];
-  are_data = is_data;
-  refresh = 3600;
-  retry = 600;
-  expire = 7200;
 }
 
--- the cache had one
-pub is_one : IsOneDataPerName (editions_of (edition ∷ []))
-is_one x y wx wy s n v = same wx.1 wy.1
-  where
-    same : IsIn (editions_of (edition ∷ [])) x → IsIn (editions_of (edition ∷ [])) y
-        → x.for_version v ≡ y.for_version v
-    same (inl a) (inl b) = ap (λ (z : Edition (List Payload)). z.for_version v) (sym a ∙ b)
-    same (inr a) b = absurd a
-    same (inl a) (inr b) = absurd b
-
-fits : FitsEdition edition
-fits = record {
-  session = lit< tt;
-  serial = lit< tt;
-  payloads = (
-    record {
-      range = record {
-        lengths = (lit≤ tt, lit≤ tt);
-        address = lit< tt;
-        host_bits = refl;
-        asn = lit< tt;
-      };
-      fit = refl;
-      bytes = tt;
-    },
-    tt,
-  );
-  refresh = lit< tt;
-  retry = lit< tt;
-  expire = lit< tt;
 }
 
 -- ---- the client and its buffers

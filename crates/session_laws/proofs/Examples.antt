@@ -49,11 +49,11 @@ use Rattle.session_laws.proofs.Writing.{bare_bytes}
 
 -- ---- the data of the cache
 
-is_data : IsData (prefix ∷ [])
+pub is_data : IsData (prefix ∷ [])
 unfolding IsStrictlySortedBy
 is_data = (tt, tt)
 
-abbrev edition : PayloadEdition
+abbrev pub edition : PayloadEdition
 edition = record {
   name = named 7 5;
   payloads = prefix ∷ [];
@@ -64,7 +64,7 @@ edition = record {
 }
 
 -- the cache had one
-is_one : IsOneDataPerName (editions_of (edition ∷ []))
+pub is_one : IsOneDataPerName (editions_of (edition ∷ []))
 is_one x y wx wy s n v = same wx.1 wy.1
   where
     same : IsIn (editions_of (edition ∷ [])) x → IsIn (editions_of (edition ∷ [])) y
@@ -175,7 +175,7 @@ shows_payloads = payloads_agree (edition ∷ []) world₇ refl is_one run₇ ref
 
 -- ---- in bytes
 
-fits : FitsEdition edition
+pub fits : FitsEdition edition
 fits = record {
   session = lit< tt;
   serial = lit< tt;

@@ -4,4 +4,4 @@ pub mod Writing
 mod Holding
 mod InBytes
 mod Agreeing
-mod Examples
+pub mod Examples

@@ -3,13 +3,11 @@
 use native.Mathlib.Omega.{arith}
 use Rattle.std.proofs.Common.{false, Some, List, [], ◌∷◌, ◌++◌, append-nil, refl, inl, lit<, lit≤}
 use Rattle.std.proofs.Common.{subst}
-use Rattle.std.specs.List.Sorted.{IsStrictlySortedBy}
 use Rattle.rtr_base.specs.Bytes.{IsBytes, be}
 use Rattle.rtr_base.proofs.Numbers.{IsBytes-be}
 use Rattle.rtr_units.specs.Queries.{bare_list, serial_list}
 use Rattle.rtr_units.proofs.Headers.{header_bytes}
 use Rattle.unit_any.specs.AnyFields.{reset_query, serial_query}
-use Rattle.data_memory.specs.Data.{IsData}
 use Rattle.session_router.specs.declared.head.Head.{Head}
 use Rattle.session_router.specs.declared.head.Kind.TheVariants as kinds
 use Rattle.session_router.specs.Rules.{query}
@@ -24,9 +22,10 @@ use Rattle.session_cache.proofs.ExampleCalm.{gives_all_so}
 use Rattle.session_cache.proofs.ExampleWorlds.{asked, cache₁}
 use Rattle.session_bytes.specs.Heads.{HasHead}
 use Rattle.session_bytes.specs.declared.serving.Served.TheVariants as served
-use Rattle.session_bytes.proofs.Examples.{data_bytes, prefix, response_bytes}
+use Rattle.session_bytes.proofs.Examples.{data_bytes, response_bytes}
 use Rattle.session_laws.specs.Editions.{PayloadEdition}
 use Rattle.session_laws.specs.Pipes.{Bytes}
+use Rattle.session_laws.proofs.Examples.{edition}
 use Rattle.session_server.specs.Limits.{usual_server_settings}
 use Rattle.session_server.specs.Paces.{new_connection, sent}
 use Rattle.session_server_laws.specs.Services.{ServiceGoes, IsRunOfService, Service, Turn}
@@ -37,18 +36,6 @@ use Rattle.session_server_laws.specs.Services.IsRunOfService.{service_begins, se
 
 -- ---- the data of the cache
 
-pub is_data : IsData (prefix ∷ [])
-unfolding IsStrictlySortedBy
-is_data = (tt, tt)
-
-abbrev edition : PayloadEdition
-edition = record {
-  name = named 7 5;
-  payloads = prefix ∷ [];
-  are_data = is_data;
-  refresh = 3600;
-  retry = 600;
-  expire = 7200;
 }
 
 abbrev pub had : List PayloadEdition

@@ -45,7 +45,8 @@ use Rattle.session_bytes.specs.declared.serving.Served.TheVariants as served_as
 use Rattle.session_bytes.proofs.Examples.{data_bytes, end, end_bytes, is_end, is_prefix, prefix}
 use Rattle.session_bytes.proofs.Examples.{fields, prefix_bytes, response_bytes, response_has}
 use Rattle.session_laws.specs.Editions.{PayloadEdition}
-use Rattle.session_client_laws.proofs.Example.{came₃, is_data, pair₀, pair₇}
+use Rattle.session_laws.proofs.Examples.{is_data}
+use Rattle.session_client_laws.proofs.Example.{came₃, pair₀, pair₇}
 use Rattle.session_server_laws.specs.Services.{Turn}
 use Rattle.session_server_laws.proofs.Example.{all_turn, had}
 use Rattle.session_store_laws.specs.ServedData.{AreHad, AreServed, HasServed, IsEditionOf}

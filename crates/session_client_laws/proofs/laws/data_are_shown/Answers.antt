@@ -3,8 +3,9 @@ use Rattle.session_router.specs.Exchange.{none_yet}
 use Rattle.session_cache.proofs.ExampleWorlds.{settings}
 use Rattle.session_client_laws.proofs.Called.{called_of}
 use Rattle.session_bytes.proofs.Examples.{data_bytes}
+use Rattle.session_laws.proofs.Examples.{is_one}
 use Rattle.session_client_laws.proofs.Example.{begins, client₀, client₆, client₇, exchange₅}
-use Rattle.session_client_laws.proofs.Example.{is_again, is_one, is_served, new₀, pair₀, pair₆}
+use Rattle.session_client_laws.proofs.Example.{is_again, is_served, new₀, pair₀, pair₆}
 use Rattle.session_client_laws.proofs.Example.{pair₇, run, shows_answer}
 use Rattle.session_client_laws.proofs.laws.data_are_shown.Goals as goal
 
