@@ -14,8 +14,6 @@ use Rattle.session_router.specs.declared.router.Phase.TheVariants as phases
 use Rattle.session_router.specs.declared.router.Router.{Router}
 use Rattle.session_router.specs.Heeding.{IsTalking}
 use Rattle.session_router.specs.Rules.{Adopts, Rule}
-use Rattle.session_cache.specs.declared.event.Answer.{Answer}
-use Rattle.session_cache.specs.declared.event.Answer.TheVariants as answers
 use Rattle.session_cache.specs.declared.event.CacheEvent.TheVariants as asked
 use Rattle.session_cache.specs.declared.event.Present.{Present}
 use Rattle.session_cache.specs.Worlds.{IsIn}
@@ -31,7 +29,8 @@ use Rattle.session_client.specs.Makings.{Octets}
 use Rattle.session_client.specs.Tells.{IsNoUnit, IsTold, Word, of_bytes, of_itself, of_nothing}
 use Rattle.session_client.proofs.Steps.{connects_then, faulty_ends, same_kept}
 use Rattle.session_laws.specs.Editions.{PayloadEdition}
-use Rattle.session_laws.specs.Written.{FitsEdition, IsSentFrom}
+use Rattle.session_laws.specs.Written.{FitsEdition}
+use Rattle.session_laws.proofs.InBytes.{sent_fits}
 use Rattle.session_client_laws.specs.Runs.{Goes, IsOpening, IsRunOfClient, Pair}
 use Rattle.session_client_laws.specs.Runs.Goes.{asks, calls, moves, opens, renews, says}
 use Rattle.session_client_laws.specs.Runs.Goes.{takes_bytes, tells_cache}
@@ -324,14 +323,6 @@ all_fit p (pair_begins k input held new first is fits) = λ e i. the_first e i
     the_first e (inl is) = subst FitsEdition is fits
     the_first e (inr i) = absurd i
 all_fit p (pair_goes_on q _ run goes) = fits_next q p goes (all_fit q run)
-
-sent_fits : (had : List PayloadEdition) (p old : PayloadEdition) (a : Answer) →
-    ((e : PayloadEdition) → IsIn had e → FitsEdition e) → IsSentFrom had p a old →
-    (since : ℕ) → a ≡ answers.Changes since → FitsEdition old
-sent_fits had p old a fits from since is =
-    let f : IsSentFrom had p (answers.Changes since) old =
-    subst (λ (a : Answer). IsSentFrom had p a old) is from in
-    fits old f.1
 
 more_naming : (these : Present) (a b c : Octets) → IsNaming these (a ++ b) → IsNaming these c →
     IsNaming these (a ++ (b ++ c))

@@ -2,45 +2,40 @@
 -- 8210 section 5.8).
 use native.Mathlib.Omega.{arith}
 use Rattle.std.proofs.Common.{◌≡◌, ◌≤◌, ◌<◌, ◌^◌, ◌++◌, ℕ, List, [], ◌∷◌}
-use Rattle.std.proofs.Common.{Option, Some, None, map, length, refl, sym, ap, subst, ◌∙◌}
-use Rattle.std.proofs.Common.{append-nil, append_assoc}
-use Rattle.std.specs.List.{AllByRecursion, concat}
-use Rattle.rtr_base.specs.Bytes.{IsBytes, be}
-use Rattle.rtr_base.proofs.Numbers.{IsBytes-be}
+use Rattle.std.proofs.Common.{Option, Some, None, length, refl, sym, ap, ◌∙◌}
+use Rattle.std.proofs.Common.{append-nil}
+use Rattle.std.specs.List.{concat}
 use Rattle.rtr_units.specs.End.{EndMeaning, end_list}
 use Rattle.rtr_units.specs.Queries.{bare_list, serial_list}
 use Rattle.rtr_units.proofs.Ends.{end_made}
-use Rattle.rtr_units.proofs.Headers.{header_bytes}
 use Rattle.rtr_payload.specs.Payloads.{Meaning, Payload}
 use Rattle.rtr_payload.specs.Payloads.Payload.{aspa, key, origin}
-use Rattle.rtr_payload.specs.UnitFields.{Fields, aspa_unit, key_unit, meaning, prefix_unit}
 use Rattle.rtr_payload.specs.Units.{IsUnit, form_of}
 use Rattle.rtr_payload.proofs.ByFields.{unit_fields_of}
-use Rattle.rtr_payload.proofs.Fields.{form_is_unit}
-use Rattle.rtr_wire.specs.Sequences.{AreUnits}
 use Rattle.unit_any.specs.AnyFields.{cache_reset, cache_response, end_of_data, error_report}
 use Rattle.unit_any.specs.AnyFields.{payload, serial_notify}
 use Rattle.unit_any.proofs.Units.{end_has, payload_has}
 use Rattle.data_memory.specs.Data.{Change}
-use Rattle.data_memory.specs.Deltas.{all_for, change_forms, changes_for, unit_of}
+use Rattle.data_memory.specs.Deltas.{all_for, changes_for, unit_of}
 use Rattle.data_memory.proofs.Accepted.{all_sequence, delta_sequence}
-use Rattle.session_laws.proofs.Writing.{end_fits, end_head_is}
+use Rattle.session_laws.proofs.Writing.{AreFormed, bare_bytes, end_fits, end_head_is, serial_bytes}
 use Rattle.session_router.specs.declared.head.Head.{Head}
 use Rattle.session_router.specs.declared.head.Kind.TheVariants as kinds
 use Rattle.session_cache.specs.declared.cache.Cache.{Cache}
 use Rattle.session_cache.specs.declared.event.Answer.{Answer}
 use Rattle.session_cache.specs.declared.event.Answer.TheVariants as answers
 use Rattle.session_cache.specs.declared.event.CacheEvent.{CacheEvent}
-use Rattle.session_cache.specs.declared.event.CacheEvent.TheVariants as asked
 use Rattle.session_cache.specs.declared.event.OwedReport.{OwedReport}
 use Rattle.session_cache.specs.declared.event.Present.{Present}
 use Rattle.session_cache.specs.CacheRules.{CacheRule}
 use Rattle.session_cache.specs.Worlds.{change_unit, data_end, plain_head}
-use Rattle.session_bytes.specs.Heads.{HasHead, bare_head, payload_head}
+use Rattle.session_bytes.specs.Heads.{HasHead, bare_head}
 use Rattle.session_bytes.specs.Sending.{AreWhole}
 use Rattle.session_laws.specs.Editions.{PayloadEdition, edition_of, payload_source, unit_kind}
 use Rattle.session_laws.specs.Written.{CacheWrites, FitsEdition, IsOwed, IsReportOf}
 use Rattle.session_laws.specs.Written.{end_of_edition, response_bytes}
+use Rattle.session_laws.proofs.Writing.{all_version, carried_head, formed, forms_each, joined}
+use Rattle.session_laws.proofs.Writing.{changes_version}
 
 -- ---- units, one by one, whose ends of data name these data
 
@@ -76,13 +71,6 @@ naming_more these [] cs names more = more
 naming_more these (b ∷ bs) cs names more = (names.0, naming_more these bs cs names.1 more)
 
 -- ---- units that are no end of data
-
-bare_bytes : (v k s : ℕ) → v < 256 → k < 256 → IsBytes (bare_list v k s)
-bare_bytes v k s hv hk =
-    subst IsBytes (append-nil (bare_list v k s)) (header_bytes v k s 8 [] hv hk (IsBytes-be 0 0))
-
-serial_bytes : (v k s n : ℕ) → v < 256 → k < 256 → IsBytes (serial_list v k s n)
-serial_bytes v k s n hv hk = header_bytes v k s 12 (be n 4) hv hk (IsBytes-be n 4)
 
 response_names : (these : Present) (v s : ℕ) → v < 256 → s < 2 ^ 16 →
     IsNamingUnit these (bare_list v 3 s)
@@ -156,21 +144,6 @@ end_names v p fits most =
 
 -- ---- payloads
 
--- the form of each change's unit is a unit with its meaning
-abbrev AreFormed : ℕ → List Change → Type 0
-AreFormed v cs = AllByRecursion (λ c. IsUnit (form_of (unit_of v c)) (unit_of v c)) cs
-
-formed : (v : ℕ) (cs : List Change) (b : List ℕ) → AreUnits b (map (unit_of v) cs) → AreFormed v cs
-formed v [] b units = tt
-formed v (c ∷ cs) b (first, rest, is, unit, more) =
-    (form_is_unit first (unit_of v c) unit, formed v cs rest more)
-
-carried_head : (f : Fields) (n : ℕ) →
-    bare_head (unit_kind (meaning f).payload) (meaning f).version n ≡ payload_head f n
-carried_head (prefix_unit u) n = refl
-carried_head (key_unit u) n = refl
-carried_head (aspa_unit u) n = refl
-
 no_end : (x : Payload) → unit_kind x ≡ kinds.EndOfData → ⊥
 no_end (origin o) is = let z = is in cc
 no_end (key k) is = let z = is in cc
@@ -192,22 +165,12 @@ change_names these v c unit =
       λ end. absurd (no_end c.payload end),
     )
 
-abbrev forms_each : ℕ → List Change → List (List ℕ)
-forms_each v cs = map (λ c. form_of (unit_of v c)) cs
-
 -- and behind them an end of data
 changes_name : (these : Present) (v : ℕ) (cs : List Change) (last : List ℕ) → AreFormed v cs →
     IsNamingUnit these last → AreNaming these (forms_each v cs ++ last ∷ [])
 changes_name these v [] last all end = (end, tt)
 changes_name these v (c ∷ cs) last all end =
     (change_names these v c all.0, changes_name these v cs last all.1 end)
-
-joined : (v : ℕ) (cs : List Change) (last : List ℕ) →
-    concat (forms_each v cs ++ last ∷ []) ≡ change_forms v cs ++ last
-joined v [] last = append-nil last
-joined v (c ∷ cs) last =
-    let b : List ℕ = form_of (unit_of v c) in
-    ap (λ (l : List ℕ). b ++ l) (joined v cs last) ∙ sym (append_assoc b (change_forms v cs) last)
 
 -- ---- what a cache writes
 
@@ -237,25 +200,6 @@ owed_written : (these : Present) (r : Option OwedReport) (b : List ℕ) → IsOw
 owed_written these None b owed = none_written these b owed
 owed_written these (Some r) b owed =
     one_written these b b refl (report_names these r.version r.code.0 b owed)
-
--- the version of an answer with data is one that there is
-all_version : (c c' : Cache) (n : ℕ) (p : Present) (e : CacheEvent) →
-    CacheRule c n p e answers.All c' → c'.version ≤ 2
-all_version c c' n p (asked.Came u kept) w =
-    subst (λ v. v ≤ 2) (sym (ap (λ (c : Cache). c.version) w.1.after)) w.1.query.version.most
-all_version c c' n p asked.Tick w = absurd w
-all_version c c' n p asked.Full w = absurd w
-all_version c c' n p asked.Lost w = absurd w
-all_version c c' n p (asked.Faulty f) w = absurd w
-
-changes_version : (c c' : Cache) (n since : ℕ) (p : Present) (e : CacheEvent) →
-    CacheRule c n p e (answers.Changes since) c' → c'.version ≤ 2
-changes_version c c' n since p (asked.Came u kept) w =
-    subst (λ v. v ≤ 2) (sym (ap (λ (c : Cache). c.version) w.1.after)) w.1.query.version.most
-changes_version c c' n since p asked.Tick w = absurd w
-changes_version c c' n since p asked.Full w = absurd w
-changes_version c c' n since p asked.Lost w = absurd w
-changes_version c c' n since p (asked.Faulty f) w = absurd w
 
 pub written_names : (c c' : Cache) (n : ℕ) (old p : PayloadEdition) (e : CacheEvent) (a : Answer)
     (b : List ℕ) → ((since : ℕ) → a ≡ answers.Changes since → FitsEdition old) → FitsEdition p →

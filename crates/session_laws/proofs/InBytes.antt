@@ -330,7 +330,7 @@ heard_query queries heads b later u way is has =
 
 -- ---- the data that changes are from
 
-sent_fits : (had : List PayloadEdition) (p old : PayloadEdition) (a : Answer) →
+pub sent_fits : (had : List PayloadEdition) (p old : PayloadEdition) (a : Answer) →
     ((e : PayloadEdition) → IsIn had e → FitsEdition e) → IsSentFrom had p a old →
     (since : ℕ) → a ≡ answers.Changes since → FitsEdition old
 sent_fits had p old a fits from since is =

@@ -2,6 +2,6 @@ pub mod Payloads
 mod OnTheWay
 pub mod Writing
 mod Holding
-mod InBytes
+pub mod InBytes
 mod Agreeing
 pub mod Examples

@@ -57,7 +57,7 @@ pub bare_bytes : (v k s : ℕ) → v < 256 → k < 256 → IsBytes (bare_list v 
 bare_bytes v k s hv hk =
     subst IsBytes (append-nil (bare_list v k s)) (header_bytes v k s 8 [] hv hk (IsBytes-be 0 0))
 
-serial_bytes : (v k s n : ℕ) → v < 256 → k < 256 → IsBytes (serial_list v k s n)
+pub serial_bytes : (v k s n : ℕ) → v < 256 → k < 256 → IsBytes (serial_list v k s n)
 serial_bytes v k s n hv hk = header_bytes v k s 12 (be n 4) hv hk (IsBytes-be n 4)
 
 -- a unit without a payload is on its way
@@ -145,15 +145,16 @@ end_way v p fits most =
 -- ---- payloads
 
 -- the form of each change's unit is a unit with its meaning
-abbrev AreFormed : ℕ → List Change → Type 0
+abbrev pub AreFormed : ℕ → List Change → Type 0
 AreFormed v cs = AllByRecursion (λ c. IsUnit (form_of (unit_of v c)) (unit_of v c)) cs
 
-formed : (v : ℕ) (cs : List Change) (b : List ℕ) → AreUnits b (map (unit_of v) cs) → AreFormed v cs
+pub formed : (v : ℕ) (cs : List Change) (b : List ℕ) → AreUnits b (map (unit_of v) cs) →
+    AreFormed v cs
 formed v [] b units = tt
 formed v (c ∷ cs) b (first, rest, is, unit, more) =
     (form_is_unit first (unit_of v c) unit, formed v cs rest more)
 
-carried_head : (f : Fields) (n : ℕ) →
+pub carried_head : (f : Fields) (n : ℕ) →
     bare_head (unit_kind (meaning f).payload) (meaning f).version n ≡ payload_head f n
 carried_head (prefix_unit u) n = refl
 carried_head (key_unit u) n = refl
@@ -175,7 +176,7 @@ change_way v c unit =
       carries = λ w p. (c, refl, unit);
     }
 
-abbrev forms_each : ℕ → List Change → List (List ℕ)
+abbrev pub forms_each : ℕ → List Change → List (List ℕ)
 forms_each v cs = map (λ c. form_of (unit_of v c)) cs
 
 changes_way : (v : ℕ) (cs : List Change) → AreFormed v cs →
@@ -183,7 +184,7 @@ changes_way : (v : ℕ) (cs : List Change) → AreFormed v cs →
 changes_way v [] all = tt
 changes_way v (c ∷ cs) all = (change_way v c all.0, changes_way v cs all.1)
 
-joined : (v : ℕ) (cs : List Change) (last : List ℕ) →
+pub joined : (v : ℕ) (cs : List Change) (last : List ℕ) →
     concat (forms_each v cs ++ last ∷ []) ≡ change_forms v cs ++ last
 joined v [] last = append-nil last
 joined v (c ∷ cs) last =
@@ -262,7 +263,7 @@ owed_written v old p a (Some r) b owed is =
     (report_has r.version r.code.0 b owed) (is (length b))
 
 -- the version of an answer with data is one that there is
-all_version : (c c' : Cache) (n : ℕ) (p : Present) (e : CacheEvent) →
+pub all_version : (c c' : Cache) (n : ℕ) (p : Present) (e : CacheEvent) →
     CacheRule c n p e answers.All c' → c'.version ≤ 2
 all_version c c' n p (asked.Came u kept) w =
     subst (λ v. v ≤ 2) (sym (ap (λ (c : Cache). c.version) w.1.after)) w.1.query.version.most
@@ -271,7 +272,7 @@ all_version c c' n p asked.Full w = absurd w
 all_version c c' n p asked.Lost w = absurd w
 all_version c c' n p (asked.Faulty f) w = absurd w
 
-changes_version : (c c' : Cache) (n since : ℕ) (p : Present) (e : CacheEvent) →
+pub changes_version : (c c' : Cache) (n since : ℕ) (p : Present) (e : CacheEvent) →
     CacheRule c n p e (answers.Changes since) c' → c'.version ≤ 2
 changes_version c c' n since p (asked.Came u kept) w =
     subst (λ v. v ≤ 2) (sym (ap (λ (c : Cache). c.version) w.1.after)) w.1.query.version.most
