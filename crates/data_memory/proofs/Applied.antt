@@ -87,7 +87,7 @@ unit_read u action p a b ((t, took, is), whole) shape means = (
 
 -- ---- data announced anew
 
-one_ok : (r : Result (List Payload) ChangeError) (c d : List Payload) → r ≡ Ok c → r ≡ Ok d →
+pub one_ok : (r : Result (List Payload) ChangeError) (c d : List Payload) → r ≡ Ok c → r ≡ Ok d →
     c ≡ d
 one_ok (Ok x) c d h k =
     let first : x ≡ c = cc in

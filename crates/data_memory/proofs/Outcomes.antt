@@ -39,6 +39,7 @@ use Rattle.data_memory.specs.declared.change_error.ChangeError.TheVariants.{NoPr
 use Rattle.data_memory.proofs.Accepted.{again}
 use Rattle.data_memory.proofs.Delta.{after_append}
 use Rattle.data_memory.proofs.Merge.{refused_all}
+use Rattle.data_memory.proofs.Applied.{one_ok}
 
 known : (a b : Option (List ℕ)) (t input : List ℕ) → a ≡ Some input → Consumes a b t →
     (left : List ℕ) × (b ≡ Some left) × (input ≡ t ++ left)
@@ -144,14 +145,6 @@ no_fault limit f input b us last left ms ns e blames h lt j is counts ends =
     (read_run limit f us last left ns j counts ends)
     (sequence_run everything limit b h.rest ms e h.sequence lt) (sym is ∙ h.parts) blames tt in
     let never = t.0 in absurd cc
-
-one_ok : (r : Result (List Payload) ChangeError) (c d : List Payload) → r ≡ Ok c → r ≡ Ok d →
-    c ≡ d
-one_ok (Ok x) c d h k =
-    let first : x ≡ c = cc in
-    let second : x ≡ d = cc in
-    sym first ∙ second
-one_ok (Err e) c d h k = absurd cc
 
 at_left : (P : List ℕ → Type 0) (o : Option (List ℕ)) (x : List ℕ) → o ≡ Some x → IfSome o P → P x
 at_left P o x e h = subst (λ q. IfSome q P) e h

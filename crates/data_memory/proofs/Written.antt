@@ -7,7 +7,7 @@ use Rattle.std.proofs.lemmas.List.{map-append}
 use Rattle.std.proofs.lemmas.Grind.{flat_map-append}
 use Rattle.std.proofs.lemmas.List.Elements.{filter-append}
 use Rattle.std.specs.BTreeMap.{is_at}
-use Rattle.std.specs.List.{filter, flat_map, list_any, AllByRecursion}
+use Rattle.std.specs.List.{filter, flat_map, list_any}
 use Rattle.std.specs.Map.{lookup}
 use Rattle.std.specs.Ordering.{nat_cmp, on}
 use Rattle.std.specs.Prelude.{is_some, nat_le}
@@ -31,6 +31,7 @@ use Rattle.data_memory.proofs.Parts.{origin_same, key_same, origin_above, key_ab
 use Rattle.data_memory.proofs.Parts.{aspa_below_origins, aspa_below_keys, entry_name, part_very}
 use Rattle.data_memory.proofs.Parts.{very_below}
 use Rattle.data_memory.proofs.Segments.{Above, Below, no_name_below, part_has}
+use Rattle.data_memory.proofs.Merge.{all_filter}
 
 withdrawn_forms : (v : ℕ) (ps : List Payload) →
     change_forms v (map withdrawal ps) ≡
@@ -44,15 +45,6 @@ announced_forms : (v : ℕ) (ps : List Payload) →
 announced_forms v [] = refl
 announced_forms v (p ∷ ps) =
     ap (λ l. form v (flags_of Announce) p ++ l) (announced_forms v ps)
-
-all_filter : (P : Payload → Type 0) (test : Payload → Bool) (xs : List Payload) →
-    AllByRecursion P xs → AllByRecursion P (filter test xs)
-all_filter P test [] h = tt
-all_filter P test (x ∷ xs) (g, h) =
-    elim (test x) as (λ b. AllByRecursion P (cond b (x ∷ filter test xs) (filter test xs))) [
-      | true ↦ (g, all_filter P test xs h)
-      | false ↦ all_filter P test xs h
-    ]
 
 filter_map : {T : Type 0} (f : T → Payload) (t : Payload → Bool) (u : T → Bool) →
     ((x : T) → t (f x) ≡ u x) → (xs : List T) → filter t (map f xs) ≡ map f (filter u xs)
