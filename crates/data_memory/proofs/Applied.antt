@@ -137,7 +137,7 @@ copied os ks es d z a b c s is nothing first second third =
 
 -- ---- what is read is fit
 
-fit_key : (k : KeyParts) → length k.info ≤ 65503 → IsFit (key k)
+pub fit_key : (k : KeyParts) → length k.info ≤ 65503 → IsFit (key k)
 fit_key k h = grind (arith, nat_tests)
 
 fit_aspa : (action : Action) (a : AspaParts) → HasProviders action a.providers →

@@ -16,11 +16,11 @@ use Rattle.data_memory.specs.Data.{changed, after, announcement, withdrawal}
 use Rattle.data_memory.proofs.Names.{name_alike}
 use Rattle.data_memory.proofs.Membership.{replaced_data, removed_data, replaced_has, removed_has}
 
-is_if : (b : Bool) (e : ChangeError) (x d : List Payload) → cond b (Err e) (Ok x) ≡ Ok d → x ≡ d
+pub is_if : (b : Bool) (e : ChangeError) (x d : List Payload) → cond b (Err e) (Ok x) ≡ Ok d → x ≡ d
 is_if true e x d h = absurd cc
 is_if false e x d h = cc
 
-is_unless : (b : Bool) (e : ChangeError) (x d : List Payload) → cond b (Ok x) (Err e) ≡ Ok d →
+pub is_unless : (b : Bool) (e : ChangeError) (x d : List Payload) → cond b (Ok x) (Err e) ≡ Ok d →
     x ≡ d
 is_unless true e x d h = cc
 is_unless false e x d h = absurd cc

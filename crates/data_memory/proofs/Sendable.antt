@@ -18,7 +18,7 @@ range_more f g xs x h one =
     subst (λ l. AllByRecursion (λ p. IsInRange p) l) (sym (pushed f g xs x))
     (all_append (λ p. IsInRange p) (map g (map f xs)) (g (f x) ∷ []) h (one, tt))
 
-sendable : (d : List Payload) → AllByRecursion (λ p. IsInRange p) d → AreFit d →
+pub sendable : (d : List Payload) → AllByRecursion (λ p. IsInRange p) d → AreFit d →
     AllByRecursion (λ p. IsSendable p) d
 sendable [] h k = tt
 sendable (p ∷ d) (g, h) (f, k) =

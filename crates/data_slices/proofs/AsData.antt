@@ -9,8 +9,8 @@ use Rattle.data_memory.specs.Changes.{after_all}
 use Rattle.data_memory.specs.Data.{Change}
 use Rattle.data_memory.specs.Deltas.{unit_of}
 use Rattle.data_memory.specs.Sequences.{change_of}
+use Rattle.data_memory.proofs.Accepted.{again}
 use Rattle.data_slices.specs.Order.{Sends}
-use Rattle.data_slices.proofs.Ordering.{made_again}
 
 -- the sequence makes this of data that keep to it
 pub applies_all : (limit : ℕ) (input b : List ℕ) (e : EndMeaning) (d d' : List Payload)
@@ -19,7 +19,7 @@ pub applies_all : (limit : ℕ) (input b : List ℕ) (e : EndMeaning) (d d' : Li
 applies_all limit input b e d d' cs a s =
     let same = accepted_same input b s.bytes a.meanings (map (unit_of e.version) cs) e e a.accepts
     s.accepts in
-    ap (λ l. after_all l (Ok d)) (sym (ap (map change_of) same.1 ∙ made_again e.version cs))
+    ap (λ l. after_all l (Ok d)) (sym (ap (map change_of) same.1 ∙ again e.version cs))
     ∙ a.allowed
 
 as_many : (v : ℕ) (cs : List Change) → length (map (unit_of v) cs) ≡ length cs
@@ -36,6 +36,6 @@ applicable limit input e d d' cs s few all = (
     meanings = map (unit_of e.version) cs;
     accepts = s.accepts;
     below = omega (arith, few, as_many e.version cs);
-    allowed = ap (λ l. after_all l (Ok d)) (made_again e.version cs) ∙ all;
+    allowed = ap (λ l. after_all l (Ok d)) (again e.version cs) ∙ all;
   },
 )

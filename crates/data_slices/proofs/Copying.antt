@@ -3,7 +3,6 @@ use Rattle.std.proofs.Common.{◌≡◌, ℕ, ◌+◌, ◌-◌, ◌≤◌, List,
 use Rattle.std.proofs.Common.{None, refl, sym, ap, subst, ◌∙◌, append_assoc, append-nil, arith}
 use Rattle.std.proofs.Common.{drop, take, inl, inr}
 use Rattle.std.proofs.lemmas.List.{length-append, length-drop, map-append, take-append-drop}
-use Rattle.std.specs.List.{AllByRecursion}
 use Rattle.std.specs.declared.cmp.Ordering.TheVariants.{Less}
 use borrow.Rule.Slice.PartMut.{put_mid}
 use Rattle.rtr_base.specs.declared.action.Action.TheVariants.{Announce}
@@ -12,6 +11,7 @@ use Rattle.rtr_payload.specs.Units.{form_of}
 use Rattle.unit_views.specs.Placing.{Places}
 use Rattle.data_memory.specs.Data.{announcement, name_cmp}
 use Rattle.data_memory.specs.Deltas.{change_forms}
+use Rattle.data_memory.proofs.Segments.{all_append}
 use Rattle.data_slices.specs.Canonical.{PlacesFront}
 use Rattle.data_slices.specs.Items.{meant}
 use Rattle.data_slices.specs.PrivateChanges.{HoldsUnits, IsNext, IsUnder, NoUnit}
@@ -27,11 +27,6 @@ pub forms_of_append : (v : ℕ) (xs ys : List Payload) →
 forms_of_append v xs ys =
     ap (λ l. change_forms v l) (map-append announcement xs ys)
     ∙ forms_append v (map announcement xs) (map announcement ys)
-
-all_join : (P : Payload → Type 0) (xs ys : List Payload) → AllByRecursion P xs →
-    AllByRecursion P ys → AllByRecursion P (xs ++ ys)
-all_join P [] ys h k = k
-all_join P (x ∷ xs) ys (g, h) k = (g, all_join P xs ys h k)
 
 -- how far data were written
 pub record Copied (bound : Option PayloadView) (v : ℕ) (d : List Payload) (rest before now : List ℕ)
@@ -181,7 +176,7 @@ module _ (bound : Option PayloadView) (base rest before now : List ℕ) (written
                       g.all ∙ ap (λ l. g.xs ++ l) f.all
                       ∙ sym (append_assoc g.xs (f.first ∷ []) f.others);
                   below =
-                      all_join (λ x. IsBelowBound x bound) g.xs (f.first ∷ []) g.below
+                      all_append (λ x. IsBelowBound x bound) g.xs (f.first ∷ []) g.below
                       (of_bound bound f.first (ap (λ (m : Meaning). m.payload) f.means) under, tt);
                   held = f.held;
                   so_far =
@@ -209,7 +204,7 @@ module _ (bound : Option PayloadView) (base rest before now : List ℕ) (written
                 g.all ∙ ap (λ l. g.xs ++ l) f.all
                 ∙ sym (append_assoc g.xs (f.first ∷ []) f.others);
             below =
-                all_join (λ x. IsBelowBound x bound) g.xs (f.first ∷ []) g.below
+                all_append (λ x. IsBelowBound x bound) g.xs (f.first ∷ []) g.below
                 (of_bound bound f.first (ap (λ (m : Meaning). m.payload) f.means) under, tt);
             placed =
                 subst (λ l. PlacesFront None l before

@@ -1,5 +1,5 @@
 -- What changes in the order of names make of data is what they make as they came.
-use Rattle.std.proofs.Common.{◌≡◌, ℕ, Bool, true, false, not, ◌&&◌, cond, List, [], ◌∷◌, ◌++◌}
+use Rattle.std.proofs.Common.{◌≡◌, ℕ, not, ◌&&◌, List, [], ◌∷◌, ◌++◌}
 use Rattle.std.proofs.Common.{Option, Some, None, Result, Ok, Err, refl, sym, ap, subst, ◌∙◌}
 use Rattle.std.specs.BTreeMap.{is_at}
 use Rattle.std.specs.BTreeSet.{replace_key}
@@ -14,6 +14,7 @@ use Rattle.data_memory.specs.declared.change_error.ChangeError.{ChangeError}
 use Rattle.data_memory.specs.declared.change_error.ChangeError.TheVariants.{Duplicate, Unknown}
 use Rattle.data_memory.proofs.Fewest.{after_all_data}
 use Rattle.data_memory.proofs.Merge.{refused_all}
+use Rattle.data_memory.proofs.Changes.{is_if, is_unless}
 use Rattle.data_slices.specs.Apply.{data_form}
 use Rattle.data_slices.specs.Canonical.{PlacesFront}
 use Rattle.data_slices.specs.Net.{of_name}
@@ -25,15 +26,6 @@ use Rattle.data_slices.proofs.Netting.{all_allowed, of_each_name, steps}
 use Rattle.data_slices.proofs.Refusal.{answers, in_row}
 use Rattle.data_slices.proofs.SortedOffsets.{InOrder}
 use Rattle.data_slices.proofs.There.{same_data, there}
-
-is_if : (b : Bool) (e : ChangeError) (x d : List Payload) → cond b (Err e) (Ok x) ≡ Ok d → x ≡ d
-is_if true e x d h = absurd cc
-is_if false e x d h = cc
-
-is_unless : (b : Bool) (e : ChangeError) (x d : List Payload) → cond b (Ok x) (Err e) ≡ Ok d →
-    x ≡ d
-is_unless true e x d h = cc
-is_unless false e x d h = absurd cc
 
 put_is : (a : Action) (p : Payload) (d f : List Payload) → changed a p d ≡ Ok f → put_at a p d ≡ f
 put_is Announce p d f h =

@@ -1,6 +1,6 @@
 -- What follows for changes that are all allowed over some data.
 use Rattle.std.proofs.Common.{◌≡◌, ℕ, cond, List, [], ◌∷◌, ◌++◌, map, Option, Ok}
-use Rattle.std.proofs.Common.{refl, sym, ap, subst, ◌∙◌}
+use Rattle.std.proofs.Common.{sym, ap, subst, ◌∙◌}
 use Rattle.std.proofs.lemmas.List.Elements.{filter-append}
 use Rattle.std.specs.Ordering.{is_eq}
 use Rattle.rtr_units.specs.End.{EndMeaning, end_list}
@@ -10,15 +10,12 @@ use Rattle.data_memory.specs.Changes.{after_all}
 use Rattle.data_memory.specs.Data.{Change, IsData, name_cmp}
 use Rattle.data_memory.specs.Deltas.{change_forms, unit_of}
 use Rattle.data_memory.specs.Sequences.{change_of}
+use Rattle.data_memory.proofs.Accepted.{again}
 use Rattle.data_slices.specs.Canonical.{PlacesFront}
 use Rattle.data_slices.specs.Net.{AreLinked, Follow, of_name}
 use Rattle.data_slices.specs.Order.{IsAgain, LeadsAlike, RefusesAt, Sends, WritesOrder}
 use Rattle.data_slices.proofs.Netting.{all_linked, nets_lead}
 use Rattle.data_slices.proofs.Walking.{own_name}
-
-pub made_again : (v : ℕ) (cs : List Change) → map change_of (map (unit_of v) cs) ≡ cs
-made_again v [] = refl
-made_again v (c ∷ cs) = ap (λ l. c ∷ l) (made_again v cs)
 
 -- an input begins with one sequence
 pub one_sequence : (input : List ℕ) (cs ds : List Change) (e f : EndMeaning) → Sends input cs e →
@@ -26,7 +23,7 @@ pub one_sequence : (input : List ℕ) (cs ds : List Change) (e f : EndMeaning) �
 one_sequence input cs ds e f s t =
     let same = accepted_same input s.bytes t.bytes (map (unit_of e.version) cs)
     (map (unit_of f.version) ds) e f s.accepts t.accepts in (
-      sym (made_again e.version cs) ∙ ap (map change_of) same.1 ∙ made_again f.version ds,
+      sym (again e.version cs) ∙ ap (map change_of) same.1 ∙ again f.version ds,
       same.2,
     )
 

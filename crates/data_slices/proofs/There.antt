@@ -19,6 +19,7 @@ use Rattle.data_memory.specs.declared.change_error.ChangeError.TheVariants.{Dupl
 use Rattle.data_memory.specs.Data.{Change, IsData, changed, has_name, name_cmp, takes_place}
 use Rattle.data_memory.proofs.Merge.{laws, same_names}
 use Rattle.data_memory.proofs.Names.{name_total, below, below_all, as_first}
+use Rattle.data_memory.proofs.Changes.{is_if, is_unless}
 
 -- those of the name
 abbrev pub there : Payload → List Payload → List Payload
@@ -177,15 +178,6 @@ same_step Withdraw p x d s n =
     (named_as p x d n)
     ∙ ap (λ l. cond (is_some (there p d)) (Ok l) (Err Unknown))
     (removed p x d s ∙ ap (λ b. cond b [] (there p d)) n)
-
-is_if : (b : Bool) (e : ChangeError) (x d : List Payload) → cond b (Err e) (Ok x) ≡ Ok d → x ≡ d
-is_if true e x d h = absurd cc
-is_if false e x d h = cc
-
-is_unless : (b : Bool) (e : ChangeError) (x d : List Payload) → cond b (Ok x) (Err e) ≡ Ok d →
-    x ≡ d
-is_unless true e x d h = cc
-is_unless false e x d h = absurd cc
 
 -- a change of another name
 pub other_step : (a : Action) (p x : Payload) (d e : List Payload) → IsData d →

@@ -2,7 +2,6 @@
 use Rattle.std.proofs.Common.{◌≡◌, Option, Some, None, refl, sym, subst}
 use Rattle.std.proofs.Common.{arith}
 use Rattle.std.proofs.lemmas.Bool.Decides.{nat_tests}
-use Rattle.std.specs.Prelude.{◌≤◌, length}
 use Rattle.std.specs.Option.{option_map}
 use Rattle.rtr_base.specs.Actions.{act}
 use Rattle.rtr_base.specs.declared.action.Action.{Action}
@@ -10,12 +9,13 @@ use Rattle.rtr_base.specs.declared.action.Action.TheVariants.{Announce, Withdraw
 use Rattle.rtr_units.specs.PrefixUnits.{OriginParts}
 use Rattle.rtr_payload.specs.AspaUnits.{HasProviders}
 use Rattle.rtr_payload.specs.FaultSteps.{rule_of}
-use Rattle.rtr_payload.specs.Payloads.{Payload, KeyParts, AspaParts, origin, key, aspa}
+use Rattle.rtr_payload.specs.Payloads.{Payload, AspaParts, origin, key, aspa}
 use Rattle.rtr_payload.specs.RouteOrigins.{meant_origin}
 use Rattle.rtr_payload.specs.UnitFields.{Fields, WithinLimits, prefix_unit, key_unit, aspa_unit}
 use Rattle.rtr_payload.specs.declared.pdu.prefix_rule.PrefixRule.{PrefixRule}
 use Rattle.data_memory.specs.Contents.{IsFit}
 use Rattle.data_memory.specs.Data.{name_of}
+use Rattle.data_memory.proofs.Applied.{fit_key}
 use Rattle.text_lines.specs.TextLines.{payload_flags}
 use Rattle.list_lines.specs.PrivateFollowing.{payload_in}
 use Rattle.text_findings.specs.SequenceSoFar.{origin_under, payload_named}
@@ -39,9 +39,6 @@ fit_origin : (rule : Option PrefixRule) (o : OriginParts) (p : Payload) →
     Some p ≡ origin_under rule (origin o) → IsFit p
 fit_origin None o p e = subst (λ q. IsFit q) (sym (some_is p (origin o) e)) refl
 fit_origin (Some rule) o p e = absurd cc
-
-fit_key : (k : KeyParts) → length k.info ≤ 65503 → IsFit (key k)
-fit_key k h = grind (arith, nat_tests)
 
 fit_aspa : (action : Action) (a : AspaParts) → HasProviders action a.providers →
     action ≡ Announce → IsFit (aspa a)

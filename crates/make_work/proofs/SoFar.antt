@@ -4,11 +4,11 @@ use Rattle.std.proofs.Common.{◌++◌, map, length, Option, Some, None, refl, s
 use Rattle.std.proofs.Common.{subst, ◌∙◌, append_assoc, option_map, min, ◌^◌, ◌-◌}
 use Rattle.std.proofs.lemmas.List.{append-nil, map-append}
 use Rattle.std.specs.BTreeSet.{replace_key}
-use Rattle.std.specs.List.{AllByRecursion}
 use Rattle.rtr_payload.specs.Payloads.{Payload}
 use Rattle.data_memory.specs.Contents.{AreFit, unfit}
 use Rattle.data_memory.specs.Data.{has, has_name, name_cmp}
-use Rattle.data_memory.specs.Sequences.{IsInRange, IsSendable}
+use Rattle.data_memory.specs.Sequences.{IsInRange}
+use Rattle.data_memory.proofs.Sendable.{sendable}
 use Rattle.make_work.specs.Gathering.{first_refused, refusal_after, refused_at, lacked}
 use Rattle.make_work.specs.Gathering.{item_payload, is_lacking, GathersAll, NamesFirst}
 use Rattle.make_work.specs.PrivateAdding.{with_payload}
@@ -129,12 +129,6 @@ module _ (v : ℕ) (leaves_out : Bool) where
   pub ends_refused : (left : List Item) (d : List Payload) (r : Refusal) →
       HoldsLeft v leaves_out left d (Some r) → NamesFirst v leaves_out left r r.reason
   ends_refused left d r h = names left r r.reason h
-
-  sendable : (d : List Payload) → AllByRecursion (λ p. IsInRange p) d → AreFit d →
-      AllByRecursion (λ p. IsSendable p) d
-  sendable [] h k = tt
-  sendable (p ∷ d) (g, h) (f, k) =
-      (record { range = g.0; fit = f; bytes = g.1 }, sendable d h k)
 
   pub ends : (left : List Item) (d : List Payload) (n : ℕ) → AreFit d →
       n ≡ min (length (lacked v d)) (2 ^ 64 - 1) → HoldsLeft v leaves_out left d None →
