@@ -28,6 +28,7 @@ use Rattle.data_loading.specs.Loading.{HasOpenAnswer, IsWrong, Taken, current_ve
 use Rattle.data_loading.specs.Loading.{version_taken}
 use Rattle.data_loading.specs.PrivateLoading.{IsBased, IsBegun, IsCurrent, KeepsData}
 use Rattle.data_slices.specs.AtOffsets.{IsOf}
+use Rattle.data_slices.proofs.AsTheyCame.{ok_same}
 use Rattle.data_loading.specs.PrivateLoading.{RefusedThere, StandsAt, made_in, opened_answer}
 use Rattle.data_loading.specs.PrivateLoading.{payloads_begun}
 use Rattle.data_loading.specs.PrivateLoading.{so_much}
@@ -71,10 +72,6 @@ pub record Ready (h : Held) (a : Answer) (at : ℕ) (input index output : List �
   pub opened : HasOpenAnswer a.count input left
   pub based : IsBased a h.end
 
-pub same_payloads : (x y : List Payload) →
-    ◌≡◌ {A = Result (List Payload) ChangeError} (Ok x) (Ok y) → x ≡ y
-same_payloads x y e = cc
-
 pub none_stopped : (d : List Payload) (r : ℕ × Action) → StoppedAt [] d r → ⊥
 none_stopped d r s = none s.before s.parts
   where
@@ -102,7 +99,7 @@ module _ (h : Held) (a : Answer) (at : ℕ) (input index output : List ℕ) wher
         xs = [];
         if_allowed = λ made all.
             let same : payloads_begun a.is_anew d ≡ made =
-            same_payloads (payloads_begun a.is_anew d) made all in
+            ok_same (payloads_begun a.is_anew d) made all in
             let whole : begun_in m (last_session m) ≡ with_payloads (opened_answer d a) made =
             now ∙ ap (λ x. with_payloads (opened_answer d a) x) same in
             record {

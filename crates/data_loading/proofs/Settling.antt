@@ -33,6 +33,7 @@ use Rattle.data_loading.specs.Loading.{Taken, begun_version, current_version, is
 use Rattle.data_loading.specs.Loading.{version_borne, version_step, version_taken}
 use Rattle.data_loading.specs.PrivateLoading.{GathersAnswer, Idle, IsBased, IsBegun, IsCurrent}
 use Rattle.data_slices.specs.AtOffsets.{IsOf}
+use Rattle.data_slices.proofs.AsTheyCame.{ok_same}
 use Rattle.data_loading.specs.PrivateLoading.{IsRightReason, IsStateOf, KeepsData, ReadsSoMuch}
 use Rattle.data_loading.specs.PrivateLoading.{StandsAt}
 use Rattle.data_loading.specs.PrivateLoading.{StandsWhole, WritesBack, base_size, change_fault_of}
@@ -42,7 +43,7 @@ use Rattle.data_loading.specs.declared.fault.LoadFault.TheVariants as faults
 use Rattle.data_loading.specs.declared.fault.LoadReason.TheVariants as reasons
 use Rattle.data_loading.specs.declared.held.Answer.{Answer}
 use Rattle.data_loading.specs.declared.held.Held.{Held}
-use Rattle.data_loading.proofs.Ready.{Leaves, Ready, same_payloads, none_stopped}
+use Rattle.data_loading.proofs.Ready.{Leaves, Ready, none_stopped}
 use Rattle.data_loading.proofs.Steps.{all_push, begins, held_more, left_is, parts_more, recorded}
 use Rattle.data_loading.proofs.Steps.{size_more, split, version_more}
 use Rattle.data_loading.proofs.Opened.{none_more, none_yet}
@@ -384,7 +385,7 @@ module _ (h : Held) (a : Answer) (at size session : ℕ) (input index index' out
         xs = [];
         if_allowed = λ made all.
             let same : payloads_begun a.is_anew s.d ≡ made =
-            same_payloads (payloads_begun a.is_anew s.d) made all in (
+            ok_same (payloads_begun a.is_anew s.d) made all in (
               held_more t.units (Ok nothing) t.held f t.makes ∙ ap (λ m. Ok m) opens.0
                   ∙ ap (λ d. Ok (made_in (so_much next_held s.d) (opened_answer s.d a) d)) same,
               version_more t.units (Ok nothing) None t.held f t.makes ∙ opens.1,

@@ -76,7 +76,8 @@ writes_data n old input before after d d' cs end end' h s version made (x, is, (
         x ≡ y
     ok_is x y e = cc
 
-ok_same : (x y : List Payload) → ◌≡◌ {A = Result (List Payload) ChangeError} (Ok x) (Ok y) → x ≡ y
+pub ok_same : (x y : List Payload) → ◌≡◌ {A = Result (List Payload) ChangeError} (Ok x) (Ok y) →
+    x ≡ y
 ok_same x y e = cc
 
 not_both : (x : List Payload) (y : ChangeError) →

@@ -19,7 +19,7 @@ use Rattle.data_slices.specs.PrivateOffsets.{HaveSome, Views}
 use Rattle.data_slices.specs.declared.item.PayloadView.{PayloadView}
 use Rattle.data_slices.proofs.Copying.{stays_long, forms_of_append}
 use Rattle.data_slices.proofs.Deltas.{joined, joined_none, longer}
-use Rattle.data_slices.proofs.Going.{Taken, some_left, taken}
+use Rattle.data_slices.proofs.Going.{Taken, none_left, some_left, taken}
 use Rattle.data_slices.proofs.Merging.{Written, more, rest_of}
 use Rattle.data_slices.proofs.Putting.{all_above, put_all_after, put_all_again}
 
@@ -62,10 +62,6 @@ begins base input places before some = record {
   };
 }
 
-no_places : (input : List ℕ) (v : ℕ) (ds : List Change) → HaveUnits input v [] ds → ds ≡ []
-no_places input v [] h = refl
-no_places input v (d ∷ ds) h = absurd h
-
 nothing_over : (ys : List Payload) → StartsOver None ys → ys ≡ []
 nothing_over [] h = refl
 nothing_over (y ∷ ys) h = absurd (h tt)
@@ -80,7 +76,7 @@ module _ (base input places rest base_rest before now : List ℕ) (written : ℕ
         forms_of v g.zs ++ forms_of v g.d' ≡ forms_of v (put_all cs d)
     all_is v d cs g =
         let no : g.ds ≡ [] =
-        no_places input v g.ds (subst (λ l. HaveUnits input v l g.ds) none g.units) in
+        none_left input v g.ds (subst (λ l. HaveUnits input v l g.ds) none g.units) in
         sym (ap (forms_of v) (g.whole ∙ ap (λ l. g.zs ++ put_all l g.d') no)
         ∙ forms_of_append v g.zs g.d')
 

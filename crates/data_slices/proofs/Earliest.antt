@@ -14,8 +14,9 @@ use Rattle.data_memory.specs.Data.{Change, has_name, name_cmp}
 use Rattle.data_memory.proofs.Merge.{laws, same_names}
 use Rattle.data_slices.specs.PrivateInOrder.{disallowed, earlier_of, earliest, fits, there_before}
 use Rattle.data_slices.specs.PrivateOffsets.{is_action, same_name}
-use Rattle.data_slices.proofs.InTurn.{bad_over, first_bad, of_pair, own}
+use Rattle.data_slices.proofs.InTurn.{bad_over, first_bad, of_pair}
 use Rattle.data_slices.proofs.NetOrdered.{over, rises}
+use Rattle.data_slices.proofs.Walking.{own_name}
 
 -- the first isn't above the second, where there is one
 abbrev pub NotAbove : Option (ℕ × Action) → Option (ℕ × Action) → Type 0
@@ -201,7 +202,7 @@ module _ (d : List Payload) where
               inr (
                 c.payload,
                 h ∙ ap (λ b. cond b None (Some (x.0, c.action))) g
-                    ∙ sym (same c.payload (own c.payload)
+                    ∙ sym (same c.payload (own_name c.payload)
                     ∙ ap (λ b. cond b (first_bad (state (Some c) c.payload) (of_pair c.payload xs))
                     (Some (x.0, c.action))) g),
               )

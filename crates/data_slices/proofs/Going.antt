@@ -63,7 +63,7 @@ some_left input places o view os parts w (v, cs, h) =
     let t = taken input places o view os v cs parts w h in
     (v, t.ds, t.left)
 
-none_left : (input : List ℕ) (v : ℕ) (ds : List Change) → HaveUnits input v [] ds → ds ≡ []
+pub none_left : (input : List ℕ) (v : ℕ) (ds : List Change) → HaveUnits input v [] ds → ds ≡ []
 none_left input v [] h = refl
 none_left input v (d ∷ ds) h = absurd h
 

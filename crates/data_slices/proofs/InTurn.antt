@@ -5,7 +5,6 @@ use Rattle.std.proofs.Common.{◌∷◌, ◌++◌, map, Option, Some, None, Ok, 
 use Rattle.std.proofs.Common.{◌∙◌, arith}
 use Rattle.std.specs.BTreeMap.{is_at}
 use Rattle.std.specs.BTreeSet.{replace_key}
-use Rattle.std.specs.Cmp.{tied_itself}
 use Rattle.std.specs.List.{AllByRecursion}
 use Rattle.std.specs.Ordering.{is_eq}
 use Rattle.std.specs.Set.{remove_key}
@@ -18,11 +17,11 @@ use Rattle.data_memory.specs.declared.change_error.ChangeError.{ChangeError}
 use Rattle.data_memory.specs.declared.change_error.ChangeError.TheVariants.{Duplicate, Unknown}
 use Rattle.data_memory.proofs.Changes.{after_data}
 use Rattle.data_memory.proofs.Merge.{same_names}
-use Rattle.data_memory.proofs.Names.{name_total}
 use Rattle.data_slices.specs.InOrder.{AreAllowed}
 use Rattle.data_slices.specs.PrivateInOrder.{fits}
 use Rattle.data_slices.specs.PrivateOffsets.{is_action}
 use Rattle.data_slices.proofs.There.{is_some, named, removed, replaced, there}
+use Rattle.data_slices.proofs.Walking.{own_name}
 
 -- ---- what a change makes
 
@@ -53,9 +52,6 @@ refuses Announce p d h =
     (not_false (has_name d p && not (takes_place p)) h)
 refuses Withdraw p d h =
     ap (λ b. cond b (Ok (remove_key (is_at (name_cmp p)) d)) (Err Unknown)) h
-
-pub own : (p : Payload) → is_eq (name_cmp p p) ≡ true
-own p = ap is_eq (tied_itself name_total p)
 
 there_if : (b : Bool) (q p : Payload) (d : List Payload) →
     is_some (cond b (p ∷ []) (there q d)) ≡ cond b true (has_name d q)
@@ -160,7 +156,7 @@ module _ (x : ℕ × Change) (xs : List (ℕ × Change)) (d : List Payload) (s :
       Some (x.0, x.1.action)
   own_bad f =
       ap (λ b. first_bad (has_name d x.1.payload)
-      (cond b (x ∷ of_pair x.1.payload xs) (of_pair x.1.payload xs))) (own x.1.payload)
+      (cond b (x ∷ of_pair x.1.payload xs) (of_pair x.1.payload xs))) (own_name x.1.payload)
       ∙ ap (λ b. cond b
       (first_bad (is_action Announce x.1.action) (of_pair x.1.payload xs))
       (Some (x.0, x.1.action))) f

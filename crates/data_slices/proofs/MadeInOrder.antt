@@ -26,6 +26,7 @@ use Rattle.data_slices.proofs.Netting.{all_allowed, of_each_name, steps}
 use Rattle.data_slices.proofs.Refusal.{answers, in_row}
 use Rattle.data_slices.proofs.SortedOffsets.{InOrder}
 use Rattle.data_slices.proofs.There.{same_data, there}
+use Rattle.data_slices.proofs.AsTheyCame.{ok_same}
 
 put_is : (a : Action) (p : Payload) (d f : List Payload) → changed a p d ≡ Ok f → put_at a p d ≡ f
 put_is Announce p d f h =
@@ -45,9 +46,6 @@ put_all_is : (cs : List Change) (d f : List Payload) → after_all cs (Ok d) ≡
 put_all_is [] d f h = cc
 put_all_is (c ∷ cs) d f h = put_step c cs d f (λ x g. put_all_is cs x f g) (after c d) refl h
 
-ok_is : (x y : List Payload) → ◌≡◌ {A = Result (List Payload) ChangeError} (Ok x) (Ok y) → x ≡ y
-ok_is x y e = cc
-
 module _ (input os : List ℕ) (cs : List Change) (e : EndMeaning) (ps : List ℕ)
     (r : InOrder input os cs e.version ps) (d : List Payload) (is : IsData d) (made : List Payload)
     (all : after_all cs (Ok d) ≡ Ok made) where
@@ -61,7 +59,7 @@ module _ (input os : List ℕ) (cs : List Change) (e : EndMeaning) (ps : List �
       let (f, to) = all_allowed r.ds d is (λ p. (there p made, of_name_made p)) in
       put_all_is r.ds d f to
       ∙ same_data f made (after_all_data r.ds d f is to) (after_all_data cs d made is all)
-      (λ p. ok_is (there p f) (there p made)
+      (λ p. ok_same (there p f) (there p made)
       (sym (of_each_name p r.ds d f is to) ∙ of_name_made p))
 
   pub made_if : (base before after : List ℕ) → HoldsUnits Announce e.version base d →

@@ -2,7 +2,7 @@
 use Rattle.std.proofs.Common.{◌≡◌, Bool, true, false, not, ◌&&◌, cond, List, [], ◌∷◌}
 use Rattle.std.proofs.Common.{Result, Ok, Err, refl, sym, ap, ◌∙◌}
 use Rattle.std.proofs.lemmas.Bool.{true≢false, false≢true}
-use Rattle.std.specs.Cmp.{Equal-is, tied_back, tied_itself}
+use Rattle.std.specs.Cmp.{Equal-is, tied_back}
 use Rattle.std.specs.List.{AllByRecursion}
 use Rattle.std.specs.Ordering.{is_eq}
 use Rattle.std.specs.declared.cmp.Ordering.TheVariants.{Equal}
@@ -21,6 +21,7 @@ use Rattle.data_slices.specs.Net.{AreDecided, AreLinked, Follow, Nets, is_open, 
 use Rattle.data_slices.specs.Net.{net, of_name, settles, undecided}
 use Rattle.data_slices.proofs.There.{Fine, fine, is_some, other_step, same_data, same_step, seen}
 use Rattle.data_slices.proofs.There.{step, step_at, there}
+use Rattle.data_slices.proofs.Walking.{own_name}
 
 -- changes of one name, one after the other
 abbrev pub steps : List Change → Result (List Payload) ChangeError →
@@ -69,9 +70,6 @@ of_each_name p (c ∷ cs) d e s h =
 
 abbrev Allowed : List Change → List Payload → Type 0
 Allowed cs s = (t : List Payload) × (steps cs (Ok s) ≡ Ok t)
-
-own_name : (p : Payload) → is_eq (name_cmp p p) ≡ true
-own_name p = ap is_eq (tied_itself name_total p)
 
 first_refused : (c : Change) (cs : List Change) (d : List Payload) (x : ChangeError) → IsData d →
     after c d ≡ Err x → Allowed (of_name c.payload (c ∷ cs)) (there c.payload d) → ⊥
