@@ -15,6 +15,7 @@ use Rattle.data_history.specs.Store.{BeginsSession, HoldsStore, IsAmong, IsTaken
 use Rattle.data_history.specs.Store.{left_sessions}
 use Rattle.data_history.proofs.Behind.{behind_sum, earlier_by}
 use Rattle.data_history.proofs.Storing.{not_behind}
+use Rattle.data_history.proofs.Advancing.{same_snapshot}
 
 abbrev pub session : Snapshot → ℕ
 session x = x.end.session
@@ -114,9 +115,6 @@ pub record Lives (served : List Snapshot) (file present taken : Option (List ℕ
   pub of_file : OfTaken served file
   pub of_present : OfPresent served present
   pub of_taken : OfTaken served taken
-
-same_snapshot : (x z : Snapshot) → z.payloads ≡ x.payloads → z.end ≡ x.end → z ≡ x
-same_snapshot x z p e = (λ i. record { end = e i; payloads = p i })
 
 one_store : (b : List ℕ) (x z : Snapshot) (xs zs : List Snapshot) → HoldsStore b x xs →
     HoldsStore b z zs → z ≡ x

@@ -157,7 +157,7 @@ goes_on {since} {most} {m} {m'} {r} {new} {f} {s} {f'} {s'} t xs file un may l =
 
 -- ---- without a file
 
-other_held : (b : Bool) (f s : List ℕ) → held_of (not b) f s ≡ other_of b f s
+pub other_held : (b : Bool) (f s : List ℕ) → held_of (not b) f s ≡ other_of b f s
 other_held true f s = refl
 other_held false f s = refl
 

@@ -1,11 +1,10 @@
 -- An input that begins with a sequence has status 0, and no other input has.
-use Rattle.std.proofs.Common.{◌≡◌, ◌≢◌, ℕ, ◌+◌, ◌<◌, ◌≤◌, List, [], ◌∷◌, ◌++◌, length, drop}
+use Rattle.std.proofs.Common.{◌≡◌, ◌≢◌, ℕ, ◌+◌, ◌≤◌, List, [], ◌∷◌, ◌++◌, length, drop}
 use Rattle.std.proofs.Common.{Result, Ok, Err, refl, sym, ap, subst}
 use Rattle.std.proofs.Common.{◌∙◌, append-nil, arith, inl, inr}
 use Rattle.std.proofs.lemmas.Bool.{cases_lt}
 use Rattle.std.proofs.lemmas.List.{length-append}
 use Rattle.std.proofs.lemmas.List.Elements.{filter_map-append}
-use Rattle.rtr_units.specs.StopCauses.{too_many, wrong}
 use Rattle.rtr_units.specs.End.{EndMeaning, end_list}
 use Rattle.rtr_payload.specs.Payloads.{Meaning}
 use Rattle.rtr_payload.proofs.Apart.{begins_apart}
@@ -13,16 +12,16 @@ use Rattle.rtr_payload.proofs.Fields.{units_same}
 use Rattle.unit_views.specs.declared.fault.ViewFault.{ViewFault}
 use Rattle.unit_views.specs.declared.fault.ViewFault.TheVariants as faults
 use Rattle.rtr_wire.specs.Into.{NormalisesInto, RefusesVersion}
-use Rattle.rtr_wire.specs.Run.{Run}
 use Rattle.rtr_wire.specs.Sequences.{AreUnits, Accepts, Output, forms, sequence_form}
 use Rattle.rtr_wire.specs.Sequences.{written_units}
 use Rattle.rtr_wire.specs.declared.into.IntoFault.{IntoFault}
 use Rattle.rtr_wire.specs.declared.into.IntoFault.TheVariants.{NoRoom, TooMany, Refused}
 use Rattle.rtr_wire.specs.declared.into.Progress.{Progress}
-use Rattle.rtr_wire.proofs.OneAnswer.{begins_end, one_run, sequence_run}
+use Rattle.rtr_wire.proofs.OneAnswer.{begins_end}
 use Rattle.rtr_wire.proofs.Push.{forms_append, units_push}
 use Rattle.rtr_wire.proofs.Runs.{accepted_same, after as then, goes_on}
 use Rattle.rtr_wire.proofs.Written.{form_written, forms_one_more}
+use Rattle.data_history.proofs.Rooms.{stopped_run}
 use Rattle.rtr_c.specs.Answers.{Tells, TellsSequence, CallSucceeds, CallSucceedsOnly}
 use Rattle.rtr_c.specs.Answers.{fault_status, stop_status, run_status}
 use Rattle.rtr_c.specs.declared.answer.RtrAnswer.{RtrAnswer}
@@ -114,26 +113,6 @@ unknown version r input before after p a code f t zero =
     omega (arith, three, sym t.answered ∙ zero)
 
 -- ---- a run that stopped
-
--- another run over the input comes to its end of data
-stopped : (what : Output) (limit : ℕ) (g : IntoFault) (input before after : List ℕ)
-    (p : Progress) → NormalisesInto what limit (Err g) input before after p → g ≢ NoRoom →
-    (b : List ℕ) (ms : List Meaning) (e : EndMeaning) → Accepts input b ms e → length ms < limit → ⊥
-stopped what limit NoRoom input before after p f not b ms e acc few = not refl
-stopped what limit TooMany input before after p f not b ms e acc few =
-    let other = sequence_run what limit b acc.rest ms e acc.sequence few in
-    let one = one_run what limit (Err too_many) _ f.viewed f.left f.form b acc.rest _ f.run other
-    (sym f.parts ∙ acc.parts) tt tt in
-    let same = one.0 in
-    absurd cc
-stopped what limit (Refused g) input before after p f not b ms e acc few =
-    let (h, is) = f.stops in
-    let other = sequence_run what limit b acc.rest ms e acc.sequence few in
-    let run = subst (λ c. Run what limit (Err c) f.viewed f.left f.form) is f.run in
-    let one = one_run what limit (Err (wrong h)) _ f.viewed f.left f.form b acc.rest _ run other
-    (sym f.parts ∙ acc.parts) tt tt in
-    let same = one.0 in
-    absurd cc
 
 -- ---- a run that lacked room
 
@@ -251,7 +230,7 @@ pub accepted : (what : Output) (limit enough : ℕ) (r : Result Unit IntoFault)
     CallSucceeds what limit enough input before after a code
 accepted what limit enough (Err g) input before after p a code f t always b ms e acc
     few room =
-    absurd (stopped what limit g input before after p f (by_room g f always) b ms e acc few)
+    absurd (stopped_run what limit g input before after p f (by_room g f always) b ms e acc few)
   where
     by_room : (g : IntoFault) → NormalisesInto what limit (Err g) input before after p →
         (enough ≤ length before → NotNoRoom (Err g)) → g ≢ NoRoom

@@ -1,5 +1,5 @@
 -- The calls of `Stores` keep to lives in which each store adds only what was taken.
-use Rattle.std.proofs.Common.{◌≡◌, ◌∙◌, ℕ, Bool, true, false, not, List, [], ◌∷◌, Option}
+use Rattle.std.proofs.Common.{◌≡◌, ◌∙◌, ℕ, not, List, [], ◌∷◌, Option}
 use Rattle.std.proofs.Common.{Some, None, Ok, refl, sym, ap, subst, take}
 use Rattle.data_history.specs.Life.{MayTake}
 use Rattle.data_history.specs.Life.{gave_up, saved, served_first, served_next, started, took}
@@ -14,7 +14,7 @@ use Rattle.data_history.specs.Stores.{front_of, held_of, MayBeOf, other_of, serv
 use Rattle.data_history.specs.Stores.{taken_store}
 use Rattle.data_history.specs.declared.stores.Stores.{Stores}
 use Rattle.data_history.proofs.Living.{Extends, IsLast, lives, lives_unsaved}
-use Rattle.data_history.proofs.Serving.{noted_to_save}
+use Rattle.data_history.proofs.Serving.{noted_to_save, other_held}
 use Rattle.session_store_laws.specs.HeldHistory.{AllIn, HasLife, HasUnsavedLife}
 use Rattle.session_store_laws.proofs.Held.{all_of_front}
 
@@ -75,10 +75,6 @@ takes since most n m m' f s f' s' served file z un may t after held l =
     (sym (after ∙ noted_to_save m n un))
     (subst (λ (b : List ℕ). HasLife served file (front_of m.served b) (Some (take n other)))
     (sym held) on)
-
-other_held : (b : Bool) (f s : List ℕ) → held_of (not b) f s ≡ other_of b f s
-other_held true f s = refl
-other_held false f s = refl
 
 abbrev bytes_in : Option (List ℕ) → List ℕ
 bytes_in None = []
