@@ -5,8 +5,8 @@ use Rattle.std.proofs.lemmas.List.{flat_map_more}
 use Rattle.std.specs.List.{flat_map}
 use Rattle.unit_any.specs.AnyFields.{AnyFields, any_list}
 use Rattle.data_recordings.specs.RecordingRead.{IsRecorded}
+use Rattle.data_recordings.proofs.RecordingSoFar.{all_push}
 use Rattle.data_loading.specs.Loading.{HasOpenAnswer, IsAtStart, IsInside, Taken, is_payload}
-use Rattle.data_loading.proofs.Steps.{all_push}
 
 -- where it begins
 pub none_yet : (input : List ℕ) (at : ℕ) (t : Taken input at) → IsAtStart t.units t.held →

@@ -29,13 +29,14 @@ use Rattle.data_loading.specs.Loading.{version_taken}
 use Rattle.data_loading.specs.PrivateLoading.{IsBased, IsBegun, IsCurrent, KeepsData}
 use Rattle.data_slices.specs.AtOffsets.{IsOf}
 use Rattle.data_slices.proofs.AsTheyCame.{ok_same}
+use Rattle.data_recordings.proofs.RecordingSoFar.{all_push, held_more}
 use Rattle.data_loading.specs.PrivateLoading.{RefusedThere, StandsAt, made_in, opened_answer}
 use Rattle.data_loading.specs.PrivateLoading.{payloads_begun}
 use Rattle.data_loading.specs.PrivateLoading.{so_much}
 use Rattle.data_loading.specs.declared.fault.LoadReason.TheVariants as reasons
 use Rattle.data_loading.specs.declared.held.Answer.{Answer}
 use Rattle.data_loading.specs.declared.held.Held.{Held}
-use Rattle.data_loading.proofs.Steps.{all_push, begins, held_more, parts_more, recorded, size_is}
+use Rattle.data_loading.proofs.Steps.{begins, parts_more, recorded, size_is}
 use Rattle.data_loading.proofs.Steps.{size_more, split, version_more}
 use Rattle.data_loading.proofs.Opened.{none_yet, one_more}
 

@@ -34,6 +34,7 @@ use Rattle.data_loading.specs.Loading.{version_borne, version_step, version_take
 use Rattle.data_loading.specs.PrivateLoading.{GathersAnswer, Idle, IsBased, IsBegun, IsCurrent}
 use Rattle.data_slices.specs.AtOffsets.{IsOf}
 use Rattle.data_slices.proofs.AsTheyCame.{ok_same}
+use Rattle.data_recordings.proofs.RecordingSoFar.{all_push, held_more}
 use Rattle.data_loading.specs.PrivateLoading.{IsRightReason, IsStateOf, KeepsData, ReadsSoMuch}
 use Rattle.data_loading.specs.PrivateLoading.{StandsAt}
 use Rattle.data_loading.specs.PrivateLoading.{StandsWhole, WritesBack, base_size, change_fault_of}
@@ -44,7 +45,7 @@ use Rattle.data_loading.specs.declared.fault.LoadReason.TheVariants as reasons
 use Rattle.data_loading.specs.declared.held.Answer.{Answer}
 use Rattle.data_loading.specs.declared.held.Held.{Held}
 use Rattle.data_loading.proofs.Ready.{Leaves, Ready, none_stopped}
-use Rattle.data_loading.proofs.Steps.{all_push, begins, held_more, left_is, parts_more, recorded}
+use Rattle.data_loading.proofs.Steps.{begins, left_is, parts_more, recorded}
 use Rattle.data_loading.proofs.Steps.{size_more, split, version_more}
 use Rattle.data_loading.proofs.Opened.{none_more, none_yet}
 

@@ -1,24 +1,18 @@
 -- Units of a recording, taken one after the other.
 use Rattle.std.proofs.Common.{◌≡◌, ◌≤◌, ℕ, ◌+◌, List, [], ◌∷◌, ◌++◌, length, take, drop, Option}
 use Rattle.std.proofs.Common.{Result, Ok, Err, ap, sym, ◌∙◌, subst, arith, append_assoc}
-use Rattle.std.specs.List.{AllByRecursion, flat_map}
+use Rattle.std.specs.List.{flat_map}
 use Rattle.std.proofs.lemmas.List.{length-append, length-take, flat_map_more, take-append-drop}
 use Rattle.std.proofs.Math.Seq.{drop-append_seam}
 use Rattle.unit_any.specs.AnyFields.{AnyFields, HasAnyFields, any_list}
 use Rattle.data_recordings.specs.RecordingRead.{IsRecorded, KeepsPrefixRule}
 use Rattle.data_recordings.specs.Recordings.{SoMuch, held_after, step}
 use Rattle.data_recordings.specs.declared.stop.Refusal.{Refusal}
+use Rattle.data_recordings.proofs.RecordingSoFar.{all_push, held_more}
 use Rattle.data_loading.specs.Loading.{BeginsWith, version_through, version_step}
 
 pub ok_is : (m n : SoMuch) → ◌≡◌ {A = Result SoMuch Refusal} (Ok m) (Ok n) → m ≡ n
 ok_is m n e = cc
-
-pub held_more : (units : List AnyFields) (r : Result SoMuch Refusal) (h : SoMuch)
-    (unit : AnyFields) → held_after units r ≡ Ok h →
-    held_after (units ++ unit ∷ []) r ≡ step unit h
-held_more [] r h unit e = ap (held_after (unit ∷ [])) e
-held_more (u ∷ us) (Ok g) h unit e = held_more us (step u g) h unit e
-held_more (u ∷ us) (Err x) h unit e = absurd cc
 
 pub version_more : (units : List AnyFields) (r : Result SoMuch Refusal) (w : Option ℕ)
     (h : SoMuch) (unit : AnyFields) → held_after units r ≡ Ok h →
@@ -28,11 +22,6 @@ version_more [] (Err x) w h unit e = absurd cc
 version_more (u ∷ us) (Ok m) w h unit e =
     version_more us (step u m) (version_step u m w) h unit e
 version_more (u ∷ us) (Err x) w h unit e = absurd cc
-
-pub all_push : (P : AnyFields → Type 0) (xs : List AnyFields) (x : AnyFields) →
-    AllByRecursion P xs → P x → AllByRecursion P (xs ++ x ∷ [])
-all_push P [] x h p = (p, tt)
-all_push P (y ∷ ys) x h p = (h.0, all_push P ys x h.1 p)
 
 -- ---- the next unit
 

@@ -1,3 +1,3 @@
 mod KeptData
-mod RecordingSoFar
+pub mod RecordingSoFar
 mod RecordingStops

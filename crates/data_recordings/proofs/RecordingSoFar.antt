@@ -33,12 +33,14 @@ pub record SoFar (count offset : ℕ) (old new : Option (List ℕ)) (held : SoMu
 
 -- ---- one unit more
 
-all_push : (P : AnyFields → Type 0) (xs : List AnyFields) (x : AnyFields) → AllByRecursion P xs →
+pub all_push : (P : AnyFields → Type 0) (xs : List AnyFields) (x : AnyFields) →
+    AllByRecursion P xs →
     P x → AllByRecursion P (xs ++ x ∷ [])
 all_push P [] x h p = (p, tt)
 all_push P (y ∷ ys) x h p = (h.0, all_push P ys x h.1 p)
 
-held_more : (units : List AnyFields) (r : Result SoMuch Refusal) (h : SoMuch) (unit : AnyFields) →
+pub held_more : (units : List AnyFields) (r : Result SoMuch Refusal) (h : SoMuch)
+    (unit : AnyFields) →
     held_after units r ≡ Ok h → held_after (units ++ unit ∷ []) r ≡ step unit h
 held_more [] r h unit e = ap (held_after (unit ∷ [])) e
 held_more (u ∷ us) (Ok g) h unit e = held_more us (step u g) h unit e
