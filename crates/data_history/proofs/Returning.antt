@@ -1,18 +1,18 @@
 -- The data that joined changes make, and the slices that they want.
-use Rattle.std.proofs.Common.{◌≡◌, ◌≤◌, ◌<◌, ◌+◌, ◌*◌, ℕ, List, [], ◌∷◌, ◌++◌, Option, Some, None}
+use Rattle.std.proofs.Common.{◌≡◌, ◌≤◌, ◌<◌, ◌+◌, ◌*◌, ℕ, List, ◌++◌, Option, Some, None}
 use Rattle.std.proofs.Common.{Result, Ok, Err, length, map, drop, take, refl, sym, ap, ◌∙◌}
 use Rattle.std.proofs.Common.{arith, inl, inr}
 use Rattle.std.proofs.lemmas.Bool.{cases_lt}
 use Rattle.std.proofs.lemmas.List.{length-map}
 use Rattle.rtr_units.specs.End.{EndMeaning, end_list}
-use Rattle.rtr_payload.specs.Payloads.{Meaning}
 use Rattle.rtr_wire.specs.Into.{NormalisesInto}
-use Rattle.rtr_wire.specs.Sequences.{everything, sequence_form, written_units}
+use Rattle.rtr_wire.specs.Sequences.{everything, sequence_form}
 use Rattle.rtr_wire.specs.declared.into.IntoFault.{IntoFault}
 use Rattle.rtr_wire.specs.declared.into.IntoFault.TheVariants as into
 use Rattle.rtr_wire.specs.declared.into.Progress.{Progress}
 use Rattle.rtr_wire.proofs.OneAnswer.{only_accepted}
 use Rattle.rtr_wire.proofs.Runs.{accepted_same}
+use Rattle.rtr_wire.proofs.Written.{all_written}
 use Rattle.data_memory.specs.Data.{Change}
 use Rattle.data_memory.specs.Deltas.{change_forms, unit_of}
 use Rattle.data_slices.specs.Apply.{data_form}
@@ -37,10 +37,6 @@ use Rattle.data_history.proofs.Joining.{changes_few}
 use Rattle.data_history.proofs.Rooms.{stopped_run}
 
 -- ---- a copy of changes
-
-all_written : (ms : List Meaning) → written_units everything ms ≡ ms
-all_written [] = refl
-all_written (m ∷ ms) = ap (λ l. m ∷ l) (all_written ms)
 
 pub copied_form : (limit : ℕ) (input before after : List ℕ) (p : Progress) (cs : List Change)
     (e : EndMeaning) → HoldsChanges input cs e →
