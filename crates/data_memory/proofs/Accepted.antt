@@ -15,11 +15,12 @@ use Rattle.rtr_units.specs.PrefixUnits.{prefix_type, prefix_size, address_bytes}
 use Rattle.rtr_units.proofs.Ends.{end_made}
 use Rattle.rtr_payload.specs.Payloads.{Payload, origin, key, aspa, IsPayload, Meaning}
 use Rattle.rtr_payload.specs.Payloads.{smallest_version}
-use Rattle.rtr_payload.specs.UnitFields.{LengthsAgree, WithinLimits, meaning, stripped}
+use Rattle.rtr_payload.specs.UnitFields.{WithinLimits, meaning, stripped}
 use Rattle.rtr_payload.specs.UnitFields.{written_fields}
 use Rattle.rtr_payload.specs.Units.{IsUnit, form, form_of}
 use Rattle.rtr_payload.proofs.ByFields.{form_is, unit_of_fields}
-use Rattle.rtr_payload.proofs.Fields.{Fit-written, meaning-written}
+use Rattle.rtr_payload.proofs.Fields.{Fit-written, flags_byte, meaning-written}
+use Rattle.rtr_payload.proofs.Made.{lengths_kept}
 use Rattle.rtr_wire.specs.Sequences.{Accepts, AreUnits, IsSequence}
 use Rattle.rtr_wire.proofs.Runs.{accepted_same}
 use Rattle.data_memory.specs.Contents.{IsFit}
@@ -31,10 +32,6 @@ use Rattle.data_memory.proofs.Once.{all_changes}
 use Rattle.data_memory.proofs.Versions.{all_lead, delta_leads}
 
 -- ---- the bytes of a form
-
-flags_byte : (a : Action) → flags_of a < 256
-flags_byte Announce = omega arith
-flags_byte Withdraw = omega arith
 
 type_byte : (f : Family) → prefix_type f < 256
 type_byte v4 = omega arith
@@ -98,11 +95,6 @@ form_means v a p h e =
     ∙ ap (λ (x : Action). record { version = v; action = x; payload = stripped x p }) (act_again a)
     ∙ ap (λ (q : Payload). record { version = v; action = a; payload = q }) e
 
-lengths_of : (v f : ℕ) (p : Payload) → IsPayload p → LengthsAgree (written_fields v f p)
-lengths_of v f (origin o) h = h.lengths
-lengths_of v f (key k) h = tt
-lengths_of v f (aspa a) h = tt
-
 unit_at : (v : ℕ) (a : Action) (p : Payload) → v < 256 → IsPayload p → HasBytes p →
     stripped a p ≡ p → WithinLimits (written_fields v (flags_of a) p) →
     IsUnit (form v (flags_of a) p) (record { version = v; action = a; payload = p })
@@ -114,7 +106,7 @@ unit_at v a p byte h b e limits = unit_of_fields _ _ (record {
     bytes = form_is v (flags_of a) p;
     are_bytes = bytes_of v (flags_of a) byte (flags_byte a) p h b;
   };
-  lengths = lengths_of v (flags_of a) p h;
+  lengths = lengths_kept v (flags_of a) p h;
   means = sym (form_means v a p h e);
 })
 

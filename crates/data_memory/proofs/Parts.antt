@@ -15,7 +15,7 @@ use Rattle.std.specs.declared.cmp.Ordering.TheVariants.{Less, Equal, Greater}
 use Rattle.rtr_base.specs.declared.action.Action.{Action}
 use Rattle.rtr_base.specs.declared.action.Action.TheVariants.{Announce, Withdraw}
 use Rattle.rtr_payload.specs.Meanings.{origin_of, key_of}
-use Rattle.rtr_payload.proofs.Orders.{aspa_chain}
+use Rattle.rtr_payload.proofs.Orders.{aspa_chain, then_equal}
 use Rattle.rtr_payload.specs.Orders.{list_cmp, payload_cmp}
 use Rattle.rtr_payload.specs.Payloads.{AspaParts, Payload, aspa}
 use Rattle.rtr_payload.specs.declared.payload.RouteOrigin.{RouteOrigin}
@@ -98,11 +98,6 @@ key_plain k = refl
 entry_takes : (e : ℕ × List ℕ) → takes_place (entry_of e) ≡ true
 unfolding takes_place
 entry_takes e = refl
-
-then_equal : (o : Ordering) → ordering_then o Equal ≡ o
-then_equal Less = refl
-then_equal Equal = refl
-then_equal Greater = refl
 
 pub entry_same : (a : AspaParts) (e : ℕ × List ℕ) →
     name_cmp (aspa a) (entry_of e) ≡ nat_cmp a.customer e.0

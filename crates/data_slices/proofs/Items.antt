@@ -1,12 +1,11 @@
 -- Names of payloads, compared part by part.
 use Rattle.std.proofs.Common.{◌≡◌, [], true, false, refl, ◌∙◌}
-use Rattle.std.specs.Ordering.{nat_cmp, ordering_then}
-use Rattle.std.specs.declared.cmp.Ordering.{Ordering}
-use Rattle.std.specs.declared.cmp.Ordering.TheVariants.{Less, Equal, Greater}
+use Rattle.std.specs.Ordering.{nat_cmp}
+use Rattle.std.specs.declared.cmp.Ordering.TheVariants.{Less, Greater}
 use Rattle.rtr_units.specs.PrefixUnits.{OriginParts}
 use Rattle.rtr_payload.specs.Orders.{payload_cmp}
 use Rattle.rtr_payload.specs.Payloads.{AspaParts, KeyParts, origin, key, aspa}
-use Rattle.rtr_payload.proofs.Orders.{aspa_chain}
+use Rattle.rtr_payload.proofs.Orders.{aspa_chain, then_equal}
 use Rattle.data_memory.specs.Data.{name_cmp, takes_place}
 
 pub origin_names : (o p : OriginParts) →
@@ -17,11 +16,6 @@ origin_names o p = refl
 pub key_names : (k j : KeyParts) → name_cmp (key k) (key j) ≡ payload_cmp (key k) (key j)
 unfolding name_cmp
 key_names k j = refl
-
-then_equal : (o : Ordering) → ordering_then o Equal ≡ o
-then_equal Less = refl
-then_equal Equal = refl
-then_equal Greater = refl
 
 pub aspa_names : (a b : AspaParts) → name_cmp (aspa a) (aspa b) ≡ nat_cmp a.customer b.customer
 unfolding name_cmp

@@ -8,7 +8,7 @@ use Rattle.std.specs.Prelude.{IsTrue}
 use Rattle.rtr_base.specs.Actions.{act}
 use Rattle.rtr_base.specs.Addresses.{Family, v4, v6, width, cleared, ip_version}
 use Rattle.rtr_base.specs.Bytes.{be, value, words, IsBytes}
-use Rattle.rtr_base.proofs.Numbers.{IsBytes-append, IsBytes-be, IsBytes-cons, IsBytes-take}
+use Rattle.rtr_base.proofs.Numbers.{IsBytes-append, IsBytes-be, IsBytes-take}
 use Rattle.rtr_base.proofs.Numbers.{IsBytes-words, length-words, value_below}
 use Rattle.rtr_units.specs.Header.{type_field}
 use Rattle.rtr_units.specs.PrefixUnits.{OriginParts, PrefixFields, prefix_list, prefix_type}
@@ -22,7 +22,7 @@ use Rattle.rtr_payload.specs.Providers.{words_of}
 use Rattle.rtr_payload.specs.UnitFields.{Fields, prefix_unit, key_unit, aspa_unit, unit_list}
 use Rattle.rtr_payload.specs.UnitFields.{HasFields, LengthsAgree, meaning}
 use Rattle.rtr_payload.proofs.ByFields.{fields_unit}
-use Rattle.rtr_payload.proofs.Fields.{meaning_fits}
+use Rattle.rtr_payload.proofs.Fields.{cells_bytes, meaning_fits}
 use Rattle.rtr_payload.proofs.ProviderBytes.{provider_bytes_of, provider_count}
 use Rattle.rtr_payload.proofs.Rests.{begins_unit_none}
 use Rattle.unit_any.specs.AnyFields.{payload}
@@ -67,13 +67,6 @@ unit_made g w part text has agree typed is whole rest = record {
   part = whole;
   text = rest;
 }
-
--- four bytes in front of others
-cells_bytes : (a b c d : ℕ) (r : List ℕ) → a < 256 → b < 256 → c < 256 → d < 256 → IsBytes r →
-    IsBytes (a ∷ b ∷ c ∷ d ∷ r)
-cells_bytes a b c d r ha hb hc hd h =
-    IsBytes-cons a (b ∷ c ∷ d ∷ r) ha
-    (IsBytes-cons b (c ∷ d ∷ r) hb (IsBytes-cons c (d ∷ r) hc (IsBytes-cons d r hd h)))
 
 bit : (a : ℕ) → a ≤ 1 → a ≡ a % 2
 bit a h = omega arith

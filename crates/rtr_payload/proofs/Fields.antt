@@ -204,7 +204,7 @@ version_of (prefix_unit u) = u.version
 version_of (key_unit u) = u.version
 version_of (aspa_unit u) = u.version
 
-abbrev flags_of_fields : Fields → ℕ
+abbrev pub flags_of_fields : Fields → ℕ
 flags_of_fields (prefix_unit u) = u.flags
 flags_of_fields (key_unit u) = u.flags
 flags_of_fields (aspa_unit u) = u.flags
@@ -351,12 +351,12 @@ form_means m h e =
 
 -- ---- and its bytes are bytes
 
-flags_byte : (a : Action) → flags_of a < 256
+pub flags_byte : (a : Action) → flags_of a < 256
 flags_byte Announce = omega arith
 flags_byte Withdraw = omega arith
 
 -- four bytes in front of others
-cells_bytes : (a b c d : ℕ) (r : List ℕ) → a < 256 → b < 256 → c < 256 → d < 256 → IsBytes r →
+pub cells_bytes : (a b c d : ℕ) (r : List ℕ) → a < 256 → b < 256 → c < 256 → d < 256 → IsBytes r →
     IsBytes (a ∷ b ∷ c ∷ d ∷ r)
 cells_bytes a b c d r ha hb hc hd h =
     IsBytes-cons a (b ∷ c ∷ d ∷ r) ha

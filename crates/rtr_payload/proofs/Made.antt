@@ -9,7 +9,7 @@ use Rattle.rtr_units.specs.StopCauses.{by_writer, too_many, no_memory, wrong}
 use Rattle.rtr_units.specs.Header.{version_field}
 use Rattle.rtr_payload.specs.Payloads.{Payload, origin, key, aspa, Meaning, IsPayload}
 use Rattle.rtr_payload.specs.FaultSteps.{rule_of}
-use Rattle.rtr_payload.specs.UnitFields.{Fields, prefix_unit, key_unit, aspa_unit, LengthsAgree}
+use Rattle.rtr_payload.specs.UnitFields.{LengthsAgree}
 use Rattle.rtr_payload.specs.UnitFields.{meaning, written_fields, stripped}
 use Rattle.rtr_payload.specs.UnitBytes.{IsWritten, unit_bytes, unit_fields, flags_in, MeansPayload}
 use Rattle.rtr_payload.specs.UnitBytes.{NeedsMemory, HasNoPayload, IsPrefixUnit}
@@ -17,28 +17,22 @@ use Rattle.rtr_payload.specs.Meanings.{payload_of}
 use Rattle.rtr_payload.specs.declared.payload.Payload.{Payload as Value}
 use Rattle.rtr_payload.specs.declared.pdu.payload.Payload.{Payload as Unit}
 use Rattle.rtr_payload.specs.declared.pdu.payload.Payload.TheVariants.{V4, V6, RouterKey, Aspa}
-use Rattle.rtr_payload.proofs.Fields.{meaning-written}
+use Rattle.rtr_payload.proofs.Fields.{flags_of_fields, meaning-written}
 use Rattle.rtr_payload.proofs.Rests.{agree_kept}
 
--- the flags that stand among the fields
-abbrev flags_among : Fields → ℕ
-flags_among (prefix_unit u) = u.flags
-flags_among (key_unit u) = u.flags
-flags_among (aspa_unit u) = u.flags
-
-flags_read : (u : Unit) → flags_in u ≡ flags_among (unit_fields u)
+flags_read : (u : Unit) → flags_in u ≡ flags_of_fields (unit_fields u)
 flags_read (V4 u) = refl
 flags_read (V6 u) = refl
 flags_read (RouterKey u) = refl
 flags_read (Aspa u) = refl
 
-flags_there : (v f : ℕ) (p : Payload) → flags_among (written_fields v f p) ≡ f
+flags_there : (v f : ℕ) (p : Payload) → flags_of_fields (written_fields v f p) ≡ f
 flags_there v f (origin o) = refl
 flags_there v f (key k) = refl
 flags_there v f (aspa a) = refl
 
 pub made_flags : (v f : ℕ) (p : Payload) (u : Unit) → IsWritten v f p u → flags_in u ≡ f
-made_flags v f p u h = flags_read u ∙ ap flags_among h.fields ∙ flags_there v f p
+made_flags v f p u h = flags_read u ∙ ap flags_of_fields h.fields ∙ flags_there v f p
 
 pub made_means : (v f : ℕ) (p : Payload) (u : Unit) (a : Action) (q : Value) → IsPayload p →
     IsWritten v f p u → MeansPayload u a q →
@@ -51,7 +45,7 @@ made_means v f p u a q valid h m =
     )
 
 -- a form keeps the rule on the lengths of a prefix
-lengths_kept : (v f : ℕ) (p : Payload) → IsPayload p → LengthsAgree (written_fields v f p)
+pub lengths_kept : (v f : ℕ) (p : Payload) → IsPayload p → LengthsAgree (written_fields v f p)
 lengths_kept v f (origin o) h = h.lengths
 lengths_kept v f (key k) h = tt
 lengths_kept v f (aspa a) h = tt

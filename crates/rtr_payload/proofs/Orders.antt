@@ -11,7 +11,7 @@ use Rattle.rtr_payload.specs.Payloads.{AspaParts, Payload, origin, key, aspa}
 use Rattle.rtr_payload.specs.OrderLaws.{payload_total}
 use Rattle.rtr_payload.specs.Orders.{list_cmp, parts, payload_cmp}
 
-then_equal : (o : Ordering) → ordering_then o Equal ≡ o
+pub then_equal : (o : Ordering) → ordering_then o Equal ≡ o
 then_equal Less = refl
 then_equal Equal = refl
 then_equal Greater = refl
