@@ -15,7 +15,7 @@ use Rattle.rtr_base.specs.Numerals.{IsDigit, IsNumeral}
 use Rattle.rtr_base.specs.ReadTexts.{IsAsnText}
 use Rattle.rtr_base.specs.declared.addr.MaxLenError.{MaxLenError}
 use Rattle.rtr_base.specs.declared.addr.MaxLenError.TheVariants.{Overflow, Underflow}
-use Rattle.rtr_base.proofs.ReadBack.{numeral_unique}
+use Rattle.rtr_base.proofs.ReadBack.{form_unique, numeral_unique}
 use Rattle.make_work.specs.JsonNames.{holding_named, is_family}
 use Rattle.make_work.specs.JsonPayloads.{AreAuthorizations, AreFamilyPayloads, AreNoPayloads}
 use Rattle.make_work.specs.JsonPayloads.{ArePayloadsBy, ArePayloadsIn, AreTopPayloads, Dated, Has}
@@ -42,7 +42,7 @@ use Rattle.make_work.specs.declared.json_names.Kind.TheVariants.{Origins, Router
 use Rattle.make_work.specs.declared.json_names.Part.{Part}
 use Rattle.make_work.specs.declared.json_names.Part.TheVariants as parts
 use Rattle.make_work.proofs.JsonRefused.{fine_asns, fine_customers, fine_each, fine_items}
-use Rattle.make_work.proofs.NoPrefix.{form_unique, no_prefix}
+use Rattle.make_work.proofs.NoPrefix.{no_prefix}
 use Rattle.make_work.proofs.NoValue.{one_base64}
 
 -- ---- one ASN at most

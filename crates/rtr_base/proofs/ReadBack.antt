@@ -186,7 +186,7 @@ prefix_form p h =
       value = is_at p h;
     }
 
-form_unique : (text : List ℕ) (p q : PrefixParts) → IsAddressAndLen text p →
+pub form_unique : (text : List ℕ) (p q : PrefixParts) → IsAddressAndLen text p →
     IsAddressAndLen text q → p ≡ q
 form_unique text p q a b =
     let cut = split_unique 47 text a.front a.back b.front b.back a.split b.split in
@@ -196,7 +196,7 @@ form_unique text p q a b =
     (subst (λ (t : List ℕ). IsNumeral t p.len) cut.1 a.len.numeral) b.len.numeral in
     a.value ∙ (λ i. prefix_of_address (ip i) (len i)) ∙ sym b.value
 
-not_broken : (p : PrefixParts) (e : _) → IsPrefix p → ¬ BreaksPrefix p e
+pub not_broken : (p : PrefixParts) (e : _) → IsPrefix p → ¬ BreaksPrefix p e
 not_broken p LenOverflow h b = let le = h.len in omega (arith, le, b)
 not_broken p NonZeroHost h b = let zero_bits = h.host_bits in b.1 (omega (arith, zero_bits))
 
