@@ -1,7 +1,7 @@
 -- What a checker knows after a unit, and that it finds what the rules say of it.
-use Rattle.std.proofs.Common.{◌≡◌, List, ◌∷◌, Option, Some, refl, sym, ap, ◌∙◌}
+use Rattle.std.proofs.Common.{◌≡◌, List, ◌∷◌, Some, refl, sym, ap, ◌∙◌}
 use Rattle.std.proofs.Common.{subst}
-use Rattle.std.specs.Prelude.{Bool, true, false, cond, IfOk, OnOk, Result, Ok, Err}
+use Rattle.std.specs.Prelude.{Bool, cond, IfOk, OnOk, Result, Ok, Err}
 use Rattle.std.specs.BTreeMap.{is_at}
 use Rattle.std.specs.List.{find}
 use Rattle.std.specs.Option.{option_map}
@@ -19,16 +19,12 @@ use Rattle.text_findings.specs.CheckedUnits.{known_after}
 use Rattle.text_findings.specs.KeptNames.{IsAnnouncedAs}
 use Rattle.text_findings.specs.Rules.{findings}
 use Rattle.text_findings.specs.SequenceSoFar.{announced, is_announce, is_same}
-use Rattle.text_findings.specs.SequenceSoFar.{named_by, payload_named, says_announced, sequence}
+use Rattle.text_findings.specs.SequenceSoFar.{named_by, payload_named, sequence}
 use Rattle.text_findings.specs.declared.finding.Finding.{Finding}
+use Rattle.text_findings.proofs.KeptNames.{says_either}
 use Rattle.list_lines.proofs.NamedPayloads.{named_in}
 use Rattle.list_lines.specs.PrivateFollowing.{Finds, KeepsNames, KnowsNames, Names, payload_in}
 use Rattle.list_lines.specs.declared.check.Checker.{Checker}
-
-says_either : (b : Bool) (x y : Option AnyFields) →
-    cond b (says_announced x) (says_announced y) ≡ says_announced (cond b x y)
-says_either true x y = refl
-says_either false x y = refl
 
 pub action_is : (u : Payload) → act (flags_in u) ≡ act (payload_flags (unit_fields u))
 action_is (units.V4 u) = refl

@@ -73,7 +73,7 @@ named_alike None p h hp = no_name p
 
 -- ---- one unit more
 
-says_either : (b : Bool) (x y : Option AnyFields) →
+pub says_either : (b : Bool) (x y : Option AnyFields) →
     cond b (says_announced x) (says_announced y) ≡ says_announced (cond b x y)
 says_either true x y = refl
 says_either false x y = refl

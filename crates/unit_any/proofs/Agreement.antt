@@ -1,13 +1,12 @@
 -- Views of units of any type and units that were read of the same bytes say the same.
-use Rattle.std.proofs.Common.{◌≡◌, ◌⊎◌, inl, inr, ℕ, cond, List, [], drop, Option}
-use Rattle.std.proofs.Common.{None, Some, refl, sym, ap, subst, ◌∙◌, arith}
+use Rattle.std.proofs.Common.{◌≡◌, ◌⊎◌, inl, inr, ℕ, cond, List, [], drop}
+use Rattle.std.proofs.Common.{refl, sym, ap, subst, ◌∙◌, arith}
 use Rattle.std.specs.Prelude.{◌==◌, IsTrue}
 use Rattle.std.proofs.lemmas.Bool.Decides.{nat_tests}
 use Rattle.rtr_base.specs.Addresses.{Family, v4, v6}
-use Rattle.rtr_base.specs.declared.timing.Timing.{Timing}
 use Rattle.rtr_base.proofs.Numbers.{value-be}
 use Rattle.rtr_units.specs.AnyEnd.{end_meaning}
-use Rattle.rtr_units.specs.End.{EndMeaning, IsEnd, timed_list}
+use Rattle.rtr_units.specs.End.{EndMeaning, IsEnd}
 use Rattle.rtr_units.specs.Header.{version_field, type_field, session_field}
 use Rattle.rtr_units.specs.PrefixUnits.{prefix_type, prefix_at}
 use Rattle.rtr_units.proofs.Ends.{end_one}
@@ -19,7 +18,7 @@ use Rattle.rtr_payload.specs.UnitFields.{HasFields, LengthsAgree, meaning}
 use Rattle.unit_views.specs.Views.{IsViewOf, ViewMeans}
 use Rattle.unit_views.specs.declared.view.UnitView.{UnitView}
 use Rattle.unit_views.specs.declared.view.UnitView.TheVariants as views
-use Rattle.unit_views.proofs.Agreement.{view_and_fields}
+use Rattle.unit_views.proofs.Agreement.{timed_type, view_and_fields}
 use Rattle.unit_any.specs.AnyFields.{AnyFields, HasAnyFields, serial_notify, serial_query}
 use Rattle.unit_any.specs.AnyFields.{reset_query, cache_response, payload, end_of_data}
 use Rattle.unit_any.specs.AnyFields.{cache_reset, error_report}
@@ -45,10 +44,6 @@ payload_type (prefix_unit u) = by_family u.origin.family
     by_family v6 = inr (inl refl)
 payload_type (key_unit u) = inr (inr (inl refl))
 payload_type (aspa_unit u) = inr (inr (inr refl))
-
-timed_type : (v s q : ℕ) (t : Option Timing) → type_field (timed_list v s q t) ≡ 7
-timed_type v s q None = refl
-timed_type v s q (Some t) = refl
 
 pub end_type : (b : List ℕ) (e : EndMeaning) → IsEnd b e → type_field b ≡ 7
 end_type b e is = ap type_field is.bytes ∙ timed_type e.version e.session e.serial e.timing

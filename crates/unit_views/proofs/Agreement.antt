@@ -33,7 +33,7 @@ fields_type (prefix_unit u) h = by_family u.origin.family h
 fields_type (key_unit u) h = omega arith
 fields_type (aspa_unit u) h = omega arith
 
-timed_type : (v s q : ℕ) (t : Option Timing) → type_field (timed_list v s q t) ≡ 7
+pub timed_type : (v s q : ℕ) (t : Option Timing) → type_field (timed_list v s q t) ≡ 7
 timed_type v s q None = refl
 timed_type v s q (Some t) = refl
 
