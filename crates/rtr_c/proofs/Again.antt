@@ -1,5 +1,5 @@
 -- What is shown of units says all of their forms.
-use Rattle.std.proofs.Common.{◌≡◌, ℕ, ◌+◌, ◌≤◌, cond, ltb, nat_le, List, [], ◌++◌, length, take}
+use Rattle.std.proofs.Common.{◌≡◌, ℕ, ◌+◌, ◌≤◌, cond, ltb, List, [], ◌++◌, length, take}
 use Rattle.std.proofs.Common.{drop, Option}
 use Rattle.std.proofs.Common.{Some, None, Ok, refl, sym, ap, ◌∙◌, append_assoc}
 use Rattle.std.proofs.Common.{arith, inl, inr, length-append}
@@ -15,7 +15,7 @@ use Rattle.unit_any.specs.AnyFields.{reset_query, cache_response, payload, end_o
 use Rattle.unit_any.specs.AnyFields.{cache_reset, error_report}
 use Rattle.unit_any.specs.SessionForms.{session_form}
 use Rattle.unit_any.specs.Reports.{HasParts}
-use Rattle.rtr_c.proofs.AgainPayload.{payload_again}
+use Rattle.rtr_c.proofs.AgainPayload.{payload_again, piece_steps}
 use Rattle.rtr_c.specs.WrittenUnits.{said, session_said, piece_said, report_said}
 use Rattle.rtr_c.specs.ShownUnits.{CallShows, IsWrittenAgain}
 use Rattle.rtr_c.specs.ShownUnits.{end_shown}
@@ -29,9 +29,6 @@ end_said_again n v s q None input h = rw h refl
 end_said_again n v s q (Some t) input h = elim h.0 [ inl e ↦ rw e refl | inr e ↦ rw e refl ]
 
 -- ---- reports
-
-piece_steps : {A : Type 0} (m n : ℕ) (x y : A) → m ≤ n → cond (nat_le m n) x y ≡ x
-piece_steps m n x y h = grind (arith, nat_tests)
 
 module _ (v c : ℕ) (p t rest : List ℕ) where
   abbrev all : List ℕ

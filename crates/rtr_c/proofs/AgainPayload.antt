@@ -33,7 +33,7 @@ use Rattle.rtr_c.specs.WrittenUnits.{aspa_form}
 use Rattle.rtr_c.specs.ShownUnits.{none, address_shown, prefix_shown, key_shown, aspa_shown}
 use Rattle.rtr_c.specs.ShownUnits.{payload_shown}
 
-piece_steps : {A : Type 0} (m n : ℕ) (x y : A) → m ≤ n → cond (nat_le m n) x y ≡ x
+pub piece_steps : {A : Type 0} (m n : ℕ) (x y : A) → m ≤ n → cond (nat_le m n) x y ≡ x
 piece_steps m n x y h = grind (arith, nat_tests)
 
 two : (m : ℕ) → m < 2 → flags_of (cond (eqb m 1) Announce Withdraw) ≡ m
@@ -109,7 +109,7 @@ prefix_back n u input fits agree =
 
 -- ---- router keys
 
-key_steps : {A : Type 0} (a n : ℕ) (p q x : A) → a ≤ 1 → n ≤ 65503 →
+pub key_steps : {A : Type 0} (a n : ℕ) (p q x : A) → a ≤ 1 → n ≤ 65503 →
     cond (ltb 1 a) p (cond (ltb 65503 n) q x) ≡ x
 key_steps a n p q x h k = grind (arith, nat_tests)
 

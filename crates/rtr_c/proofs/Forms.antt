@@ -17,11 +17,7 @@ use Rattle.rtr_units.specs.Report.{report}
 use Rattle.unit_any.specs.HeldReports.{held_report}
 use Rattle.rtr_c.specs.WrittenUnits.{part_said, text_said, key_said, aspa_said, report_said}
 use Rattle.rtr_c.specs.declared.unit.RtrUnit.{RtrUnit}
-
--- the last of the steps
-key_steps : {A : Type 0} (a n : ℕ) (p q x : A) → a ≤ 1 → n ≤ 65503 →
-    cond (ltb 1 a) p (cond (ltb 65503 n) q x) ≡ x
-key_steps a n p q x h k = grind (arith, nat_tests)
+use Rattle.rtr_c.proofs.AgainPayload.{key_steps}
 
 aspa_steps : {A : Type 0} (a n : ℕ) (p q r s t x : A) → a ≤ 1 → a ≢ 0 → n ≤ 65520 → n % 4 ≡ 0 →
     n ≢ 0 →

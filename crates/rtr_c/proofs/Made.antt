@@ -1,7 +1,6 @@
 -- What is shown of a unit whose fields are known.
-use Rattle.std.proofs.Common.{◌≡◌, ℕ, ◌≤◌, cond, nat_le, List, [], ◌++◌, length, Option, Some, None}
+use Rattle.std.proofs.Common.{◌≡◌, ℕ, List, [], ◌++◌, length, Option, Some, None}
 use Rattle.std.proofs.Common.{Result, Ok, Err, sym, ap, subst, ◌∙◌, arith}
-use Rattle.std.proofs.lemmas.Bool.Decides.{nat_tests}
 use Rattle.std.proofs.lemmas.Option.{none-some}
 use Rattle.rtr_payload.specs.FaultSteps.{first_unit}
 use Rattle.unit_views.specs.Faults.{NamesRefusal}
@@ -17,6 +16,7 @@ use Rattle.rtr_c.specs.Kept.{kept, kept_part, kept_text, IsShownAgain}
 use Rattle.rtr_c.specs.WrittenUnits.{piece_said, part_said, text_said}
 use Rattle.rtr_c.specs.ShownUnits.{CallShows, ShowsFirst}
 use Rattle.rtr_c.specs.declared.unit.RtrUnit.{RtrUnit}
+use Rattle.rtr_c.proofs.AgainPayload.{piece_steps}
 
 -- b is a unit of which w is shown, whatever follows it, with this part and this text
 pub record Made (b : List ℕ) (w : RtrUnit) (p t : Option (List ℕ)) : Type 0 where
@@ -29,9 +29,6 @@ pub record Made (b : List ℕ) (w : RtrUnit) (p t : Option (List ℕ)) : Type 0 
   pub text : (r : List ℕ) → text_said w (b ++ r) ≡ t
 
 -- ---- pieces
-
-piece_steps : {A : Type 0} (m n : ℕ) (x y : A) → m ≤ n → cond (nat_le m n) x y ≡ x
-piece_steps m n x y h = grind (arith, nat_tests)
 
 pub no_piece : (l : List ℕ) → piece_said 0 0 l ≡ Some []
 no_piece l = piece_steps 0 (length l) _ _ (omega arith)
