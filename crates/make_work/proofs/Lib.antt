@@ -12,7 +12,6 @@ pub mod SeenSoFar
 pub mod SoFar
 pub mod TimesSoFar
 pub mod ManyTimes
-pub mod AnySoFar
 pub mod AskedFor
 pub mod Origins
 pub mod Looks

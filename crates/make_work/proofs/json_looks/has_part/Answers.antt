@@ -1,7 +1,7 @@
 use Rattle.std.proofs.Common.{refl, sym, ◌∙◌}
 use Rattle.make_work.specs.JsonNames.{is_part}
 use Rattle.make_work.proofs.JsonSoFar.{some_part}
-use Rattle.make_work.proofs.AnySoFar.{ended, found, passed, starts}
+use Rattle.data_slurm.proofs.TestedSoFar.{ended, found, passed, starts}
 use Rattle.make_work.proofs.json_looks.has_part.Goals as goal
 
 pub loop-member-init : goal.loop-member-init
