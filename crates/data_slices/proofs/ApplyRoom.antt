@@ -20,10 +20,11 @@ use Rattle.data_memory.specs.declared.change_error.ChangeError.{ChangeError}
 use Rattle.data_memory.specs.declared.change_error.ChangeError.TheVariants.{Duplicate, Unknown}
 use Rattle.data_slices.specs.Apply.{AppliesChanges, data_form}
 use Rattle.data_slices.specs.Canonical.{HoldsData}
-use Rattle.data_slices.specs.CanonicalChanges.{HoldsChanges}
+use Rattle.data_slices.specs.Order.{Sends}
 use Rattle.data_slices.specs.declared.fault.ApplyFault.{ApplyFault}
 use Rattle.data_slices.specs.declared.fault.ApplyFault.TheVariants as faults
-use Rattle.data_slices.proofs.DeltaRoom.{announced_size, data_fits, units_fit}
+use Rattle.data_slices.proofs.DeltaRoom.{announced_size, data_fits}
+use Rattle.data_slices.proofs.OrderRoom.{sent_fits}
 
 module _ (v : ℕ) where
   abbrev one : Payload → ℕ
@@ -107,22 +108,9 @@ module _ (v : ℕ) where
 
 -- ---- data and changes
 
-changes_fit : (input : List ℕ) (cs : List Change) (e : EndMeaning) → HoldsChanges input cs e →
-    length (change_forms e.version cs) + length (end_list e) ≤ length input
-changes_fit input cs e h =
-    let s = h.accepts.sequence in
-    omega (
-      arith,
-      units_fit s.front (map (unit_of e.version) cs) s.units,
-      ap length s.end.bytes,
-      ap length s.parts,
-      length-append s.front s.last,
-      ap length h.accepts.parts,
-      length-append h.bytes h.accepts.rest,
-    )
-
-made_fits : (base changes : List ℕ) (d d' : List Payload) (cs : List Change) (e e' : EndMeaning) →
-    HoldsData base d e → HoldsChanges changes cs e' → e.version ≡ e'.version →
+pub made_fits : (base changes : List ℕ) (d d' : List Payload) (cs : List Change)
+    (e e' : EndMeaning) →
+    HoldsData base d e → Sends changes cs e' → e.version ≡ e'.version →
     after_all cs (Ok d) ≡ Ok d' → length (data_form d' e') ≤ length base + length changes
 made_fits base changes d d' cs e e' h j same made =
     let v = e'.version in
@@ -134,7 +122,7 @@ made_fits base changes d d' cs e e' h j same made =
       few,
       data_fits base d e h,
       ap (λ (n : ℕ). announced_size n d) same,
-      changes_fit changes cs e' j,
+      sent_fits changes cs e' j,
       length-append (change_forms v (map announcement d')) (end_list e'),
     )
 
@@ -144,7 +132,8 @@ pub room_to_apply : (r : Result ℕ ApplyFault) (base changes before after : Lis
 room_to_apply (Ok n) base changes before after w enough e = absurd cc
 room_to_apply (Err faults.NoRoom) base changes before after
     (d, e, cs, e', h, j, (same, session, (d', made, placed))) enough is =
-    absurd (omega (arith, made_fits base changes d d' cs e e' h j same made, placed.0, enough))
+    let sent : Sends changes cs e' = record { bytes = j.bytes; accepts = j.accepts } in
+    absurd (omega (arith, made_fits base changes d d' cs e e' h sent same made, placed.0, enough))
 room_to_apply (Err (faults.Data f)) base changes before after w enough e = absurd cc
 room_to_apply (Err (faults.Changes f)) base changes before after w enough e = absurd cc
 room_to_apply (Err (faults.UnitVersion v)) base changes before after w enough e = absurd cc
