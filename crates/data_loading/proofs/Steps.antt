@@ -8,7 +8,6 @@ use Rattle.unit_any.specs.AnyFields.{AnyFields, HasAnyFields, any_list}
 use Rattle.data_recordings.specs.RecordingRead.{IsRecorded, KeepsPrefixRule}
 use Rattle.data_recordings.specs.Recordings.{SoMuch, held_after, step}
 use Rattle.data_recordings.specs.declared.stop.Refusal.{Refusal}
-use Rattle.data_recordings.proofs.RecordingSoFar.{all_push, held_more}
 use Rattle.data_loading.specs.Loading.{BeginsWith, version_through, version_step}
 
 pub ok_is : (m n : SoMuch) → ◌≡◌ {A = Result SoMuch Refusal} (Ok m) (Ok n) → m ≡ n

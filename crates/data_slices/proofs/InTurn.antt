@@ -1,19 +1,17 @@
 -- Changes one after the other: the first that data don't allow, from those of each name.
 use Rattle.data_slices.specs.AtOffsets.{Over, StoppedAt, Up, made_by, why}
 use Rattle.std.proofs.Common.{◌≡◌, ◌≤◌, ◌<◌, ℕ, Bool, true, false, not, ◌&&◌, cond, List, []}
-use Rattle.std.proofs.Common.{◌∷◌, ◌++◌, map, Option, Some, None, Ok, Err, refl, sym, ap, subst}
+use Rattle.std.proofs.Common.{◌∷◌, Option, Some, None, Ok, Err, refl, sym, ap, subst}
 use Rattle.std.proofs.Common.{◌∙◌, arith}
 use Rattle.std.specs.BTreeMap.{is_at}
 use Rattle.std.specs.BTreeSet.{replace_key}
-use Rattle.std.specs.List.{AllByRecursion}
 use Rattle.std.specs.Ordering.{is_eq}
 use Rattle.std.specs.Set.{remove_key}
 use Rattle.rtr_base.specs.declared.action.Action.{Action}
 use Rattle.rtr_base.specs.declared.action.Action.TheVariants.{Announce, Withdraw}
 use Rattle.rtr_payload.specs.Payloads.{Payload}
 use Rattle.data_memory.specs.Changes.{after_all}
-use Rattle.data_memory.specs.Data.{Change, IsData, after, changed, has_name, name_cmp, takes_place}
-use Rattle.data_memory.specs.declared.change_error.ChangeError.{ChangeError}
+use Rattle.data_memory.specs.Data.{Change, IsData, changed, has_name, name_cmp, takes_place}
 use Rattle.data_memory.specs.declared.change_error.ChangeError.TheVariants.{Duplicate, Unknown}
 use Rattle.data_memory.proofs.Changes.{after_data}
 use Rattle.data_memory.proofs.Merge.{same_names}

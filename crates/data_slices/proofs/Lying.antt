@@ -1,6 +1,6 @@
 -- Changes of units at offsets that rise.
-use Rattle.std.proofs.Common.{◌≡◌, ◌≤◌, ◌<◌, ℕ, List, [], ◌∷◌, Option, Some, None, Ok, Err, refl}
-use Rattle.std.proofs.Common.{sym, ap, subst, ◌∙◌, ◌++◌, append-nil, arith, inl, inr, map}
+use Rattle.std.proofs.Common.{◌≡◌, ◌≤◌, ℕ, List, [], ◌∷◌, Option, None, Ok, refl}
+use Rattle.std.proofs.Common.{sym, ap, subst, ◌++◌, append-nil, arith, inl, inr, map}
 use Rattle.std.specs.List.{AllByRecursion}
 use Rattle.std.specs.List.Sorted.{IsPermutation, IsStrictlySortedBy}
 use Rattle.rtr_base.specs.Bytes.{IsBytes}
@@ -18,9 +18,9 @@ use Rattle.data_memory.proofs.Fewest.{after_all_data}
 use Rattle.data_slices.specs.Apply.{data_form}
 use Rattle.data_slices.specs.AtOffsets.{ChecksAt, FirstOf, HaveUnits, IsBase, LieAt}
 use Rattle.data_slices.specs.AtOffsets.{Over, Up, WritesMade, made_by, offsets_of}
-use Rattle.data_slices.specs.Canonical.{HoldsData, PlacesFront}
+use Rattle.data_slices.specs.Canonical.{HoldsData}
 use Rattle.data_slices.specs.PrivateChanges.{HoldsUnits}
-use Rattle.data_slices.specs.PrivateInOrder.{FindsEarliest, earliest, pairs}
+use Rattle.data_slices.specs.PrivateInOrder.{FindsEarliest, pairs}
 use Rattle.data_slices.specs.PrivateMade.{PlacesMadeAll}
 use Rattle.data_slices.specs.PrivateOffsets.{SortsOffsets}
 use Rattle.data_slices.proofs.MadeData.{IsKept, after_more}

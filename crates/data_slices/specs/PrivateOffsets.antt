@@ -1,6 +1,6 @@
 -- Units by the offsets at which they begin. Only contracts of private functions cite these.
 use Rattle.data_slices.specs.AtOffsets.{HasUnit, HaveUnits}
-use Rattle.std.specs.Prelude.{◌≡◌, ◌≤◌, ℕ, ◌+◌, ⊤, Bool, true, false, ◌&&◌, List, []}
+use Rattle.std.specs.Prelude.{◌≡◌, ◌≤◌, ℕ, ◌+◌, Bool, true, false, ◌&&◌, List, []}
 use Rattle.std.specs.Prelude.{◌∷◌, ◌++◌, map, filter, length, drop, take, Option, Some, None}
 use Rattle.std.specs.Prelude.{Result, if◌then◌else◌}
 use Rattle.std.specs.Option.{option_cmp}

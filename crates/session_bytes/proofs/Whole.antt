@@ -221,8 +221,6 @@ sends k units last w = record {
   };
 }
 
-}
-
 -- ---- what is written
 
 pub record Written (d : List Payload) (cs : List Change) (e : EndMeaning) (new : List ℕ)

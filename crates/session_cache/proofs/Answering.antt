@@ -6,7 +6,6 @@ use Rattle.session_router.specs.declared.head.Head.{Head}
 use Rattle.session_router.specs.declared.head.Query.{Query}
 use Rattle.session_router.specs.declared.head.Kind.TheVariants as kinds
 use Rattle.session_router.specs.Rules.{IsPayloadOf}
-use Rattle.session_router.proofs.Pacing.{query_by}
 use Rattle.session_cache.specs.declared.cache.Cache.{Cache}
 use Rattle.session_cache.specs.declared.event.CacheEvent.{CacheEvent}
 use Rattle.session_cache.specs.declared.event.CacheEvent.TheVariants as told

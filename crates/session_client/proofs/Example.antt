@@ -16,7 +16,7 @@ use Rattle.session_cache.proofs.ExampleWorlds.{settings}
 use Rattle.session_cache.proofs.ExampleWorlds.{waiting}
 use Rattle.session_bytes.specs.ShownData.{AreHeard}
 use Rattle.session_bytes.proofs.Examples.{data_bytes, end_bytes, end_has_head, in_order}
-use Rattle.session_bytes.proofs.Examples.{prefix, prefix_bytes, prefix_has}
+use Rattle.session_bytes.proofs.Examples.{prefix_bytes, prefix_has}
 use Rattle.session_bytes.proofs.Examples.{response_bytes, response_has}
 use Rattle.session_client.specs.Holding.{IsClient, ShowsFront}
 use Rattle.session_client.specs.Makings.{MadeAnswer, Octets, WasMade}
@@ -35,10 +35,6 @@ example = record {
   opened = false;
   closed = false;
 }
-
-}
-
-)
 
 abbrev pub made : MadeAnswer
 made = record { base = end_bytes; answer = data_bytes; new = data_bytes }

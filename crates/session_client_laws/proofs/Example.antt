@@ -28,7 +28,7 @@ use Rattle.session_cache.proofs.ExampleWorlds.{router₀, settings, waiting}
 use Rattle.session_bytes.specs.Heads.{HasHead}
 use Rattle.session_bytes.specs.Reading.{Acts, kept_more, kept_none}
 use Rattle.session_bytes.specs.declared.telling.Told.TheVariants as told
-use Rattle.session_bytes.proofs.Examples.{data_bytes, end, end_bytes, end_has_head, is_end, prefix}
+use Rattle.session_bytes.proofs.Examples.{data_bytes, end, end_bytes, end_has_head, is_end}
 use Rattle.session_bytes.proofs.Examples.{prefix_bytes, prefix_has, response_bytes, response_has}
 use Rattle.session_client.specs.Makings.{Octets}
 use Rattle.session_client.specs.Tells.{of_bytes, of_itself}
@@ -39,7 +39,7 @@ use Rattle.session_client.proofs.Example.{made, was}
 use Rattle.session_client.proofs.Runs.{made_is}
 use Rattle.session_client.proofs.Takes.{has_apply, has_kept, has_made}
 use Rattle.session_laws.specs.Written.{router_bytes}
-use Rattle.session_laws.proofs.Examples.{edition, fits, is_one}
+use Rattle.session_laws.proofs.Examples.{edition, fits}
 use Rattle.session_client_laws.specs.Again.{IsServedAgain}
 use Rattle.session_client_laws.specs.Again.IsServedAgain.{again_calls, again_from}
 use Rattle.session_client_laws.specs.Again.IsServedAgain.{again_meanwhile, again_opens}
@@ -51,10 +51,6 @@ use Rattle.session_client_laws.specs.Served.IsServedFrom.{says_between, serves_f
 use Rattle.session_client_laws.specs.Served.WellServed.{served_more, served_none}
 
 -- ---- the data of the cache
-
-}
-
-}
 
 -- ---- the client and its buffers
 

@@ -86,8 +86,6 @@ completes_then : (c : Caller Octets Octets) → c.settings ≡ settings →
 completes_then c same = run_goes_on 32 end_bytes (router_events.Came end_head)
     (actions.Apply false) applying until_read keeping kept_host (keeps_then c same) tt completes_so
 
-}
-
 counted : IsCountedAnswer data_bytes 1
 counted = record {
   changes = announcement prefix ∷ [];

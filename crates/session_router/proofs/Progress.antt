@@ -37,7 +37,7 @@ use Rattle.session_router.specs.Recovery.IsMadeWell.{are_made}
 use Rattle.session_router.specs.Recovery.IsBeside.{beside_from, beside_on}
 use Rattle.session_router.proofs.Exchanges.{Answering, Matched, Querying, from, in_time, matched}
 use Rattle.session_router.proofs.Exchanges.{matched_on, recovers_then, spoken_as}
-use Rattle.session_router.proofs.Serving.{fresh_or_not, not_in}
+use Rattle.session_router.proofs.Serving.{fresh_or_not}
 use Rattle.session_router.proofs.Settled.{same_settings, settled}
 use Rattle.session_router.proofs.Soon.{asked_before, asked_of, soon_always}
 use Rattle.session_router.proofs.Steps.{asks_at, asks_then, begins_at, completes_at, connects_at}
@@ -425,6 +425,9 @@ over most r x n n' l t soon has late y = go r.phase refl
         l t soon (inl refl) step ((λ k. cc), tt)
         (bare most (once_lost r n') (exchange_after r.settings n' events.Tick actions.Drop x) n' q
         refl (ready_on n n' events.Tick actions.Drop r (once_lost r n') x step soon y))
+
+    not_in : (p : Phase) → r.phase ≡ p → p ≢ phases.Offline → r.phase ≢ phases.Offline
+    not_in p q differs e = differs (sym q ∙ e)
 
     go : (p : Phase) → r.phase ≡ p → Comes most r x n
     go phases.Offline q = offline q

@@ -115,7 +115,7 @@ expired p s r r' n n' e a g q h t has late w = go p q h t
     room_self : (x : ℕ) → x ≤ x
     room_self x = omega arith
 
-    pub not_in : (p : Phase) → r.phase ≡ p → p ≢ phases.Offline → r.phase ≢ phases.Offline
+    not_in : (p : Phase) → r.phase ≡ p → p ≢ phases.Offline → r.phase ≢ phases.Offline
     not_in p q differs e = differs (sym q ∙ e)
 
     go : (p : Phase) → r.phase ≡ p → Holds p r → n' ≤ max n (due_in p r) → Kept s r r' n n'

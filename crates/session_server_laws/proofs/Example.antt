@@ -36,8 +36,6 @@ use Rattle.session_server_laws.specs.Services.IsRunOfService.{service_begins, se
 
 -- ---- the data of the cache
 
-}
-
 abbrev pub had : List PayloadEdition
 had = edition ∷ []
 

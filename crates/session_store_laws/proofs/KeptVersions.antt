@@ -1,7 +1,6 @@
 -- The version to which new data are converted.
-use Rattle.std.proofs.Common.{◌≡◌, ◌≤◌, ◌∙◌, ℕ, Bool, true, [], None, ap, arith, refl}
+use Rattle.std.proofs.Common.{◌≡◌, ◌≤◌, ◌∙◌, ℕ, true, [], None, ap, arith}
 use Rattle.std.specs.Prelude.{◌==◌, ◌&&◌, if◌then◌else◌, nat_le}
-use Rattle.rtr_units.specs.End.{EndMeaning}
 use Rattle.data_history.specs.Snapshots.{Snapshot}
 use Rattle.session_cache.specs.declared.event.Present.{Present}
 use Rattle.session_server.specs.Keeping.{kept_version}
