@@ -80,7 +80,6 @@ func TestMemoryOfAFollower(t *testing.T) {
 
 // flood is a cache that sends bytes at once, and then closes.
 type flood struct {
-	clock
 	coming []byte
 }
 
