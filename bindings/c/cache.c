@@ -485,8 +485,8 @@ static void save(struct watched *w)
     }
     w->pause = rtr_retry_after(w->pause);
     w->retry = now() + w->pause;
-    say("%s: %s: " RTR_FAILURE_UNSERVED "; trying again in %" PRIu32 " second%s",
-        w->kept, strerror(error), w->pause / 1000, w->pause == 1000 ? "" : "s");
+    say("%s: %s: " RTR_FAILURE_UNSERVED "; trying again in %" PRIu32 " second%s", w->kept,
+        strerror(error), w->pause / 1000, w->pause == 1000 ? "" : "s");
 }
 
 /* Loads what the cache saved before its restart; returns false if it can't. It may have ended

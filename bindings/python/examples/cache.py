@@ -7,7 +7,6 @@ what that file has; if it is damaged, remove it, and give the next data another 
 import argparse
 import asyncio
 import os
-import pathlib
 import socket
 import sys
 from typing import Optional, Tuple

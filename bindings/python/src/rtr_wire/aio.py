@@ -4,7 +4,6 @@ from __future__ import annotations
 
 import asyncio
 import ssl as tls
-import time
 from typing import (Any, AsyncGenerator, AsyncIterator, Awaitable, Callable, List, NamedTuple,
                     Optional, Sequence, Tuple, TypeVar, Union)
 
