@@ -132,9 +132,10 @@ const uint8_t *rtr_client_changes(struct rtr_client *client, size_t *length);
 const uint8_t *rtr_client_changes_from(struct rtr_client *client, const uint8_t *data,
                                        size_t length, size_t *changes_length);
 
-/* After RTR_CLIENT_CONNECT, returns until when connecting to the next of so many addresses of the
- * cache's name may take: each gets an equal share of the time that is left, as in each language of
- * the library; the last has until `wakes`, when RTR_CLIENT_CLOSE follows. */
+/* Returns the time at which to give up the next address of the cache's name, if this many addresses
+ * are left. Each gets an equal share of the time that is left, as in the other languages of the
+ * library; the last one has until `wakes`, when RTR_CLIENT_CLOSE follows. Call it after
+ * RTR_CLIENT_CONNECT. */
 static inline int64_t rtr_client_tried_until(const struct rtr_client *client, int64_t now,
                                              size_t addresses)
 {

@@ -9,9 +9,9 @@ import { LAST_REPORT_BYTES } from "./rtr_table.js";
 // The most milliseconds that a timer of Node takes: for more it is over at once.
 export const LONGEST_TIMER = 2 ** 31 - 1;
 
-/** Returns the milliseconds that connecting to the next of so many addresses of a host may take, if
- * all have until `end`: each gets an equal share of the time that is left, as in each language of
- * the library. */
+/** Returns how many milliseconds the next address of a host has to answer, if this many addresses
+ * are left until `end`. Each gets an equal share of the time, as in the other languages of the
+ * library. */
 export function shareOf(end, addresses) {
     return (end - performance.now()) / addresses;
 }

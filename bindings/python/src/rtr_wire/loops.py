@@ -48,8 +48,8 @@ def seconds_until(when: float) -> float:
 
 
 def share_ends(end: float, addresses: int) -> float:
-    """Returns until when the next of so many addresses of a host name is tried, if all have until
-    `end`: each gets an equal share of the time that is left, as in each language of the library."""
+    """Returns the time at which to give up the next address of a host name, if this many addresses
+    are left until `end`. Each gets an equal share of the time, as in the other languages."""
     now = time.monotonic()
     return now + (end - now) / addresses
 
